@@ -1,9 +1,9 @@
 -- No record's bytes begin with another's. Assumes nothing.
-use mathlib.Core.Path.{_≡_, refl, sym, ap}
-use mathlib.Core.List.{List, _++_}
-use Prim.Native.Nat.{ℕ, _/_, _%_}
+use mathlib.Core.Path.{_≡_, refl, sym, ap, _∙_}
+use mathlib.Core.List.{List, [], _++_}
+use Prim.Native.Nat.{ℕ, _/_, _%_, _<_}
 use native.Mathlib.Omega.{arith}
-use lib.ListN.{length, getD}
+use lib.ListN.{length, getD, length-append}
 use Rattle.std.proofs.shelf.Lists.{take-at, drop-at}
 use Rattle.records.specs.Format.{Entry, header, rule, edge, end, encode}
 
@@ -55,3 +55,13 @@ same-front (edge l n m) end s t h = absurd (omega (arith, apart h))
 same-front end (header k m) s t h = absurd (omega (arith, apart h))
 same-front end (rule y ys) s t h = absurd (omega (arith, apart h))
 same-front end (edge k p q) s t h = absurd (omega (arith, apart h))
+
+-- and none is empty
+pub not-empty : (e : Entry) → 0 < length (encode e)
+not-empty (header l n) = omega arith
+not-empty (rule x xs) = omega arith
+not-empty (edge l n m) = omega arith
+not-empty end = omega arith
+
+pub nothing-encoded : (e : Entry) (t : List ℕ) → [] ≡ encode e ++ t → ⊥
+nothing-encoded e t h = omega (arith, not-empty e, ap length h ∙ length-append (encode e) t)

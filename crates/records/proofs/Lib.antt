@@ -1,3 +1,5 @@
 mod Marks
 pub mod Codes
+mod Runs
+pub mod Places
 pub mod Passes

@@ -1,2 +1,4 @@
 pub mod Format
+pub mod Shape
+pub mod Stages
 pub mod Reading

@@ -4,6 +4,8 @@ ghost use lib.ListN.{length};
 
 mod pass;
 
+pub use pass::RecordsIterator;
+
 /// Gives the records that stand one after another in a file.
 #[derive(Drop)]
 pub struct Records<'a> {

@@ -1,10 +1,27 @@
+ghost use mathlib.Core.Path.{_≡_};
 ghost use denote.Ref.{now};
 ghost use Prim.Native.Nat.{_-_};
 ghost use lib.ListN.{length};
-ghost use Rattle.records.specs.Reading.{Steps};
+ghost use Rattle.records.specs.Reading.{Begins, Steps};
 use super::Records;
 use crate::front::front;
 use crate::record::Token;
+
+impl<'a> Records<'a> {
+    /// A pass that begins at the start of `input`.
+    pub(crate) fn new(input: &'a [u8]) -> Self
+        ensures { λ r. ⌜ Begins (now (input .entry)) r ⌝ }
+    {
+        Records { input, place: 0 }
+    }
+
+    /// Where the next record stands, or would stand.
+    pub(crate) fn place(&self) -> usize
+        ensures { λ r. ⌜ r ≡ now (self .entry) .place ⌝ }
+    {
+        self.place
+    }
+}
 
 pub impl<'a> Iterator for Records<'a> as RecordsIterator {
     type Item = Token<'a>;

@@ -5,7 +5,8 @@ use native.Mathlib.Omega.{arith}
 use Rattle.std.proofs.shelf.Lists.{take-rest}
 use Rattle.records.specs.Format.{encode}
 use Rattle.records.specs.Reading.{entry}
-use Rattle.records.proofs.Passes.{further, not-empty}
+use Rattle.records.proofs.Codes.{not-empty}
+use Rattle.records.proofs.Passes.{further}
 use Rattle.records.proofs.reader.pass.RecordsIterator.next.Needs as need
 
 pub returns-in-Break-record : need.returns-in-Break-record
