@@ -3,3 +3,5 @@ pub mod Codes
 mod Runs
 pub mod Places
 pub mod Passes
+mod Memory
+mod Copied

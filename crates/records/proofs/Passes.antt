@@ -43,6 +43,33 @@ gives-all (e ∷ es) at r rest here = (
       (cc, gives-all es (at + length (encode e)) is (same .1) next),
 )
 
+-- one turn of a loop over a pass that gives the records es, and its end
+pub record Turn (at : ℕ) (es : List Entry) (t : Token) (is : Records) : Type 0 where
+  pub later : List Entry
+  pub first : es ≡ entry (t .record) ∷ later
+  pub here : t .place ≡ at
+  pub goes-on : gives Steps told is (placed (at + length (encode (entry (t .record)))) later)
+
+pub turn : (es : List Entry) (at : ℕ) {was is : Records} {t : Token} → gives Steps told was (placed at es) → Steps was (Some t) is → Turn at es t is
+turn [] at {was} {is} {t} pass step = absurd (pass t is step)
+turn (e ∷ es) at {was} {is} {t} pass step =
+    let next = pass .1 t is step in
+    let said : entry (t .record) ≡ e = ap (λ p. p .1) (next .0) in
+    record {
+      later = es;
+      first = ap (λ f. f ∷ es) (sym said);
+      here = ap (λ p. p .0) (next .0);
+      goes-on = subst (λ f. gives Steps told is (placed (at + length (encode f)) es)) (sym said) (next .1);
+    }
+
+-- the bytes ahead of the turn are its record's, and then those of the records after it
+pub ahead : {es : List Entry} {at : ℕ} {is : Records} {t : Token} {rest : List ℕ} → rest ≡ encode-all es → (now : Turn at es t is) → rest ≡ encode (entry (t .record)) ++ encode-all (now .later)
+ahead rest now = rest ∙ ap encode-all (now .first)
+
+pub turned : (es : List Entry) (at : ℕ) {was is : Records} → gives Steps told was (placed at es) → Steps was None is → es ≡ []
+turned [] at pass step = refl
+turned (e ∷ es) at {was} {is} pass step = absurd (pass .0 is step)
+
 -- the pass has read the records es from the start of the bytes, and they lead to the stage
 pub record Sofar (bytes : List ℕ) (es : List Entry) (stage : Stage) (r : Records) : Type 0 where
   pub run : Run Start es stage

@@ -2,3 +2,5 @@ pub mod Format
 pub mod Shape
 pub mod Stages
 pub mod Reading
+pub mod Writing
+pub mod Copying
