@@ -26,7 +26,7 @@ pub written : (e : Entry) (t bytes out : List ℕ) (p : ℕ) → drop p bytes �
     → (write-answer e (take (length out - p) (drop p out)) ≡ Ok (length (encode e))) × (after-write e (take (length out - p) (drop p out)) ≡ encode e ++ drop (length (encode e)) (take (length out - p) (drop p out)))
 written e t bytes out p h byte room =
     let fits : ltb (length (take (length out - p) (drop p out))) (length (encode e)) ≡ false =
-        le-ltb (length (take (length out - p) (drop p out))) (length (encode e)) (omega (arith, ap length (take-rest out p) ∙ length-drop p out, sym (length-drop p bytes) ∙ ap length h ∙ length-append (encode e) t)) in
+    le-ltb (length (take (length out - p) (drop p out))) (length (encode e)) (omega (arith, ap length (take-rest out p) ∙ length-drop p out, sym (length-drop p bytes) ∙ ap length h ∙ length-append (encode e) t)) in
     let short = not-long e t bytes p h byte in
     (rw (short, fits) refl, rw (short, fits) refl)
 

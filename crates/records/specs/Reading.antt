@@ -16,7 +16,7 @@ use Rattle.records.specs.declared.reader.Records.{Records}
 use Rattle.records.specs.declared.record.Record.{Record}
 use Rattle.records.specs.declared.record.Record.the-variants.{Header, Rule, Edge, End}
 use Rattle.records.specs.declared.record.Token.{Token}
-use Rattle.records.specs.Format.{Entry, header, rule, edge, end, encode, encode-all, FileOf, IsFile, placed}
+use Rattle.records.specs.Format.{Entry, header, rule, edge, end, encode, encode-all, IsFile, placed}
 use Rattle.records.specs.Shape.{Stops}
 
 -- what a record says
@@ -63,9 +63,9 @@ abbrev pub Steps : Records → Option Token → Records → Type 0
 Steps was (Some t) is = Reads t was is
 Steps was None is = (is ≡ was) × NoRecord (rest-of was)
 
--- calls of next give just the records of the file in order, each with its place, and then none
+-- calls of next give just the records that the bytes encode, in order, each with its place, and then none
 abbrev pub Passes : List ℕ → Records → Type 0
-Passes bytes r = (es : List Entry) → FileOf es → bytes ≡ encode-all es → gives Steps told r (placed 0 es)
+Passes bytes r = (es : List Entry) → bytes ≡ encode-all es → gives Steps told r (placed 0 es)
 
 -- a file is accepted, and anything else refused with the place where it stops being one
 abbrev pub Reading : List ℕ → Result File Misshapen → Type 0

@@ -4,7 +4,7 @@ ghost use Rattle.records.specs.Reading.{Front};
 use crate::record::Record;
 
 /// The record that `bytes` begins with.
-pub fn front(bytes: &[u8]) -> Option<Record<'_>>
+pub(crate) fn front(bytes: &[u8]) -> Option<Record<'_>>
     ensures { λ r. ⌜ Front (now (bytes .entry)) r ⌝ }
 {
     let [a, b, fields @ ..] = bytes else {

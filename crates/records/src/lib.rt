@@ -17,3 +17,6 @@ pub use reader::RecordsIterator;
 pub use record::Output;
 pub use record::Record;
 pub use record::Token;
+
+#[cfg(test)]
+mod tests;

@@ -27,7 +27,7 @@ returns-then-out-bytes c =
 pub loop-token-holds : need.loop-token-holds
 loop-token-holds c =
     let file = c .in-Continue-file .ensures tt .cases in
-    let pass = c .records-token-items .ensures (file .0 .0) (file .0 .1) (file .1 ∙ file .0 .2) in
+    let pass = c .records-token-items .ensures (file .0 .0) (file .1 ∙ file .0 .2) in
     (file .0 .0, subst (λ r. gives Steps told r (placed 0 (file .0 .0))) (sym (c .into-iter-token-iterator .ensures .becomes)) pass, file .0 .2, omega arith, refl)
 
 pub loop-token-again : need.loop-token-again

@@ -1,0 +1,23 @@
+use mathlib.Core.Path.{ap, _∙_}
+use native.Mathlib.Omega.{arith}
+use Rattle.records.specs.Writing.{put-answer, after-put}
+use Rattle.report.specs.Reply.{refusal-record}
+use Rattle.report.proofs.Told.{copied, replied, refused}
+use Rattle.report.proofs.reply.Needs as need
+
+pub cast-refused : need.cast-refused
+cast-refused c = omega (arith, refused (c .in-Err .fault) (c .in-Err .ensures tt) .small)
+
+pub returns-in-Ok : need.returns-in-Ok
+returns-in-Ok c = replied (c .in-Ok .size) (copied (c .in-Ok .size) (c .in-Ok .ensures tt))
+
+pub returns-in-Err : need.returns-in-Err
+returns-in-Err c =
+    let f = c .in-Err .fault in
+    let why = refused f (c .in-Err .ensures tt) in
+    record {
+      bytes = refusal-record (f .refusal) (f .place);
+      answers = why .answers;
+      answer = c .write .ensures .answer ∙ ap (put-answer (refusal-record (f .refusal) (f .place))) (why .same);
+      memory = c .write .ensures .memory ∙ ap (after-put (refusal-record (f .refusal) (f .place))) (why .same);
+    }
