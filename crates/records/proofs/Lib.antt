@@ -2,6 +2,7 @@ mod Marks
 pub mod Codes
 mod Runs
 pub mod Places
-pub mod Passes
+pub mod Turns
+mod Sofar
 mod Memory
 mod Copied

@@ -1,12 +1,12 @@
--- The first bytes of a list, and the records that begin with them. Assumes nothing.
-use mathlib.Core.Path.{_≡_, refl, ap, _∙_}
+-- The first bytes of a list, the records that begin with them, and what comes after. Assumes nothing.
+use mathlib.Core.Path.{_≡_, refl, sym, ap, _∙_}
 use mathlib.Core.List.{List, [], _∷_, _++_}
 use Prim.Native.Nat.{ℕ, zero, suc, _+_, _-_, _*_, _/_, _%_, _≤_, _<_}
 use native.Mathlib.Nat.{add-zero}
 use native.Mathlib.Omega.{arith}
-use lib.ListN.{length, getD, take, drop, length-append, take-append-drop}
+use lib.ListN.{length, getD, take, drop, length-append, length-drop, take-append-drop}
 use lib.Seq.{drop-cons}
-use Rattle.std.proofs.shelf.Lists.{take-rest}
+use Rattle.std.proofs.shelf.Lists.{take-rest, drop-drop, drop-at}
 use Rattle.records.specs.Format.{Entry, header, rule, edge, end, encode}
 
 -- the n bytes of s from i on, each read by its index
@@ -45,3 +45,9 @@ whole-rule s items n le count part long =
     let m : length items ≡ n = omega arith in
     let both = take-append-drop n (drop 2 s) in
     cc
+
+-- n bytes further on in xs, past e
+pub further : (xs : List ℕ) (p n : ℕ) (e t : List ℕ) → p ≤ length xs → drop p xs ≡ e ++ t → n ≡ length e → (p + n ≤ length xs) × (drop (p + n) xs ≡ t)
+further xs p n e t within front long =
+    let all : length xs - p ≡ length e + length t = sym (length-drop p xs) ∙ ap length front ∙ length-append e t in
+    (omega arith, sym (drop-drop n p xs) ∙ ap (drop n) front ∙ drop-at e t n (sym long))

@@ -7,11 +7,11 @@ use lib.ListN.{length, length-append}
 use Rattle.std.specs.declared.option.Option.the-variants.{Some}
 use Rattle.records.specs.declared.file.Stage.{Stage}
 use Rattle.records.specs.declared.file.Stage.the-variants.{Start, Body, Done}
-use Rattle.records.specs.Format.{Entry, encode, encode-all, FileOf, IsFile}
-use Rattle.records.specs.Shape.{Opens, BadRecord, AfterEnd, NoEnd, Stops, bad-record, after-end, no-end}
+use Rattle.records.specs.Format.{Entry, encode-all, IsFile}
+use Rattle.records.specs.Shape.{Opens, Stops, bad-record, after-end, no-end}
 use Rattle.records.specs.Stages.{follow}
 use Rattle.records.proofs.Codes.{nothing-encoded}
-use Rattle.records.proofs.Runs.{Run, run-append, run-split, unsome, clash, one-stage, file-from-run, run-from-file, opens-from-run, run-from-opens, Stuck, furthest, unfinished}
+use Rattle.records.proofs.Runs.{Run, run-append, run-split, clash, one-stage, file-from-run, run-from-file, opens-from-run, run-from-opens, Stuck, furthest, unfinished}
 
 -- the records up to the place are a run, which is stuck there
 pub record StuckAt (bytes : List ℕ) (place : ℕ) : Type 0 where

@@ -6,7 +6,7 @@ use crate::reader::RecordsIterator;
 use crate::record::Record;
 
 /// A whole record file, read without fault.
-#[derive(Clone, Copy, Debug, PartialEq)]
+#[derive(Clone, Copy, Debug)]
 pub struct File<'a> {
     bytes: &'a [u8],
 }

@@ -1,7 +1,7 @@
 -- The answer that follows from each way in which a copy ends. Assumes nothing.
-use mathlib.Core.Path.{_≡_, refl, sym, ap, _∙_}
+use mathlib.Core.Path.{_≡_, refl, ap, _∙_}
 use mathlib.Core.List.{List}
-use mathlib.Core.Logic.{_⊎_, inl, inr}
+use mathlib.Core.Logic.{inl, inr}
 use Prim.Native.Nat.{ℕ, _≤_, _<_}
 use native.Mathlib.Omega.{arith}
 use lib.ListN.{length}
@@ -11,10 +11,9 @@ use Rattle.std.specs.declared.result.Result.the-variants.{Ok, Err}
 use Rattle.graph.specs.declared.refusal.Refusal.{Refusal}
 use Rattle.graph.specs.declared.refusal.Refusal.the-variants.{Shape, Short}
 use Rattle.records.specs.declared.copy.Fault.{Fault}
-use Rattle.records.specs.Copying.{fault, copy-answer, Copies}
+use Rattle.records.specs.Copying.{fault, copy-answer}
 use Rattle.records.specs.Format.{IsFile}
-use Rattle.records.specs.Shape.{Stops}
-use Rattle.records.specs.Writing.{put-answer, after-put}
+use Rattle.records.specs.Writing.{after-put}
 use Rattle.records.proofs.Places.{not-a-file, one-place, stops-within}
 use Rattle.report.specs.Reply.{limit, refusal-record, Answers, Replies, Limited}
 

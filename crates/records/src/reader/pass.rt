@@ -2,7 +2,7 @@ ghost use mathlib.Core.Path.{_≡_};
 ghost use denote.Ref.{now};
 ghost use Prim.Native.Nat.{_-_};
 ghost use lib.ListN.{length};
-ghost use Rattle.records.specs.Reading.{Begins, Steps};
+ghost use Rattle.records.specs.Reading.{Begins, Passes, Steps};
 use super::Records;
 use crate::front::front;
 use crate::record::Token;
@@ -10,7 +10,8 @@ use crate::record::Token;
 impl<'a> Records<'a> {
     /// A pass that begins at the start of `input`.
     pub(crate) fn new(input: &'a [u8]) -> Self
-        ensures { λ r. ⌜ Begins (now (input .entry)) r ⌝ }
+        ensures begins { λ r. ⌜ Begins (now (input .entry)) r ⌝ }
+        ensures passes { λ r. ⌜ Passes (now (input .entry)) r ⌝ }
     {
         Records { input, place: 0 }
     }

@@ -1,6 +1,4 @@
-use mathlib.Core.Path.{ap, _∙_}
 use native.Mathlib.Omega.{arith}
-use Rattle.records.specs.Writing.{put-answer, after-put}
 use Rattle.report.specs.Reply.{refusal-record}
 use Rattle.report.proofs.Told.{copied, replied, refused}
 use Rattle.report.proofs.reply.Needs as need
@@ -18,6 +16,6 @@ returns-in-Err c =
     record {
       bytes = refusal-record (f .refusal) (f .place);
       answers = why .answers;
-      answer = c .write .ensures .answer ∙ ap (put-answer (refusal-record (f .refusal) (f .place))) (why .same);
-      memory = c .write .ensures .memory ∙ ap (after-put (refusal-record (f .refusal) (f .place))) (why .same);
+      answer = cc (c .write .ensures .answer, why .same);
+      memory = cc (c .write .ensures .memory, why .same);
     }

@@ -11,7 +11,8 @@ use Rattle.records.specs.Format.{encode, encode-all, placed}
 use Rattle.records.specs.Reading.{entry, told, Steps}
 use Rattle.records.proofs.Copied.{copied, refused}
 use Rattle.records.proofs.Memory.{written, copied-more}
-use Rattle.records.proofs.Passes.{further, turn, ahead, turned}
+use Rattle.records.proofs.Marks.{further}
+use Rattle.records.proofs.Turns.{turn, ahead, turned}
 use Rattle.records.proofs.copy.copy_file.Needs as need
 
 pub returns-in-Break-file : need.returns-in-Break-file
@@ -21,7 +22,7 @@ returns-in-Break-file c =
 
 pub returns-then-out-bytes : need.returns-then-out-bytes
 returns-then-out-bytes c =
-    let short = lt-ltb (length (c .args .out .now)) (length (c .args .bytes .now)) (c .if-out-bytes .taken) in
+    let short = lt-ltb (length (c .args .out .now)) (length (c .args .bytes .now)) (omega arith) in
     copied (c .in-Continue-file .ensures tt .cases .0) (rw short refl) (rw short refl)
 
 pub loop-token-holds : need.loop-token-holds

@@ -1,11 +1,11 @@
-use mathlib.Core.Path.{_≡_, refl, sym, ap, subst, _∙_}
+use mathlib.Core.Path.{refl, sym, ap, subst, _∙_}
 use native.Mathlib.Omega.{arith}
 use Prim.Native.Nat.{_≤_}
 use lib.ListN.{length}
 use Rattle.std.specs.declared.result.Result.the-variants.{Ok, Err}
 use Rattle.records.specs.Reading.{Reading}
 use Rattle.records.specs.Shape.{Stops}
-use Rattle.records.proofs.Passes.{more, misplaced, cut-off, finished, empty-at-end, end-where-empty, exact}
+use Rattle.records.proofs.Sofar.{more, misplaced, cut-off, finished, empty-at-end, end-where-empty, exact}
 use Rattle.records.proofs.file.File.read.Needs as need
 
 pub returns-in-rest-after : need.returns-in-rest-after

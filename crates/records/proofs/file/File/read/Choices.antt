@@ -1,6 +1,6 @@
 use mathlib.Core.List.{List}
 use Rattle.records.specs.Format.{Entry}
-use Rattle.records.proofs.Passes.{Sofar}
+use Rattle.records.proofs.Sofar.{Sofar}
 use Rattle.records.proofs.file.File.read.Given as given
 
 abbrev pub Inv-loop-token : given.InvT-loop-token

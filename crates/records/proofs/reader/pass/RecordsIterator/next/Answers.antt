@@ -6,7 +6,7 @@ use Rattle.std.proofs.shelf.Lists.{take-rest}
 use Rattle.records.specs.Format.{encode}
 use Rattle.records.specs.Reading.{entry}
 use Rattle.records.proofs.Codes.{not-empty}
-use Rattle.records.proofs.Passes.{further}
+use Rattle.records.proofs.Marks.{further}
 use Rattle.records.proofs.reader.pass.RecordsIterator.next.Needs as need
 
 pub returns-in-Break-record : need.returns-in-Break-record
@@ -32,7 +32,7 @@ returns c =
     record {
       steps = record {
         input = refl;
-        here = refl;
+        here = omega arith;
         place = ap (λ n. c .args .self .now .place + n) (c .size .ensures);
         front = sym whole ∙ found .1 ∙ ap (λ l. encode (entry (c .in-Continue-record .record)) ++ l) (sym (next .1));
       };

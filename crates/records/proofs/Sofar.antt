@@ -1,74 +1,26 @@
--- A pass over the records of a file. Assumes nothing.
+-- How far a reading has come, and how it ends. Assumes nothing.
 use mathlib.Core.Path.{_≡_, refl, sym, ap, subst, _∙_}
-use mathlib.Core.Bool.{true}
 use mathlib.Core.List.{List, [], _∷_, _++_, append-nil, append-assoc}
-use Prim.Native.Nat.{ℕ, _+_, _-_, _≤_, _<_}
+use Prim.Native.Nat.{ℕ, _+_, _≤_}
 use native.Mathlib.Omega.{arith}
-use lib.ListN.{length, drop, length-append, length-drop}
-use Rattle.std.proofs.shelf.Lists.{drop-drop, drop-at, joined-more, nil-from-length}
-use Rattle.std.specs.Iters.{gives}
+use lib.ListN.{length, length-append, length-drop}
+use Rattle.std.proofs.shelf.Lists.{joined-more, nil-from-length}
 use Rattle.std.specs.declared.option.Option.the-variants.{Some, None}
 use Rattle.std.specs.declared.result.Result.{Result}
 use Rattle.std.specs.declared.result.Result.the-variants.{Ok, Err}
 use Rattle.records.specs.declared.file.File.{File}
 use Rattle.records.specs.declared.file.Misshapen.{Misshapen}
 use Rattle.records.specs.declared.file.Stage.{Stage}
-use Rattle.records.specs.declared.file.Stage.the-variants.{Start, Body, Done}
+use Rattle.records.specs.declared.file.Stage.the-variants.{Start, Done}
 use Rattle.records.specs.declared.reader.Records.{Records}
 use Rattle.records.specs.declared.record.Token.{Token}
 use Rattle.records.specs.Format.{Entry, encode, encode-all, IsFile, placed}
-use Rattle.records.specs.Reading.{entry, told, rest-of, NoRecord, Begins, Reads, Steps, Reading, Exact}
+use Rattle.records.specs.Reading.{entry, rest-of, NoRecord, Reads, Reading, Exact}
 use Rattle.records.specs.Shape.{Stops}
 use Rattle.records.specs.Stages.{follow}
-use Rattle.records.proofs.Codes.{same-front, not-empty, nothing-encoded}
+use Rattle.records.proofs.Codes.{same-front, nothing-encoded}
 use Rattle.records.proofs.Places.{stops-from-stuck, not-a-file, one-place}
 use Rattle.records.proofs.Runs.{Run, run-append, file-from-run, clash}
-
--- n bytes further on in xs, past e
-pub further : (xs : List ℕ) (p n : ℕ) (e t : List ℕ) → p ≤ length xs → drop p xs ≡ e ++ t → n ≡ length e → (p + n ≤ length xs) × (drop (p + n) xs ≡ t)
-further xs p n e t within front long =
-    let all : length xs - p ≡ length e + length t = sym (length-drop p xs) ∙ ap length front ∙ length-append e t in
-    (omega arith, sym (drop-drop n p xs) ∙ ap (drop n) front ∙ drop-at e t n (sym long))
-
--- whatever records the rest of a pass encodes, those it gives
-pub gives-all : (es : List Entry) (at : ℕ) (r : Records) → rest-of r ≡ encode-all es → r .place ≡ at → gives Steps told r (placed at es)
-gives-all [] at r rest here = λ t is reads. nothing-encoded (entry (t .record)) (rest-of is) (sym rest ∙ reads .front)
-gives-all (e ∷ es) at r rest here = (
-  λ is none. none .1 e (encode-all es) rest,
-  λ t is reads.
-      let same = same-front (entry (t .record)) e (rest-of is) (encode-all es) (sym (reads .front) ∙ rest) in
-      let next = reads .place ∙ ap (λ n. n + length (encode (entry (t .record)))) here ∙ ap (λ f. at + length (encode f)) (same .0) in
-      let place = reads .here in
-      let said = same .0 in
-      (cc, gives-all es (at + length (encode e)) is (same .1) next),
-)
-
--- one turn of a loop over a pass that gives the records es, and its end
-pub record Turn (at : ℕ) (es : List Entry) (t : Token) (is : Records) : Type 0 where
-  pub later : List Entry
-  pub first : es ≡ entry (t .record) ∷ later
-  pub here : t .place ≡ at
-  pub goes-on : gives Steps told is (placed (at + length (encode (entry (t .record)))) later)
-
-pub turn : (es : List Entry) (at : ℕ) {was is : Records} {t : Token} → gives Steps told was (placed at es) → Steps was (Some t) is → Turn at es t is
-turn [] at {was} {is} {t} pass step = absurd (pass t is step)
-turn (e ∷ es) at {was} {is} {t} pass step =
-    let next = pass .1 t is step in
-    let said : entry (t .record) ≡ e = ap (λ p. p .1) (next .0) in
-    record {
-      later = es;
-      first = ap (λ f. f ∷ es) (sym said);
-      here = ap (λ p. p .0) (next .0);
-      goes-on = subst (λ f. gives Steps told is (placed (at + length (encode f)) es)) (sym said) (next .1);
-    }
-
--- the bytes ahead of the turn are its record's, and then those of the records after it
-pub ahead : {es : List Entry} {at : ℕ} {is : Records} {t : Token} {rest : List ℕ} → rest ≡ encode-all es → (now : Turn at es t is) → rest ≡ encode (entry (t .record)) ++ encode-all (now .later)
-ahead rest now = rest ∙ ap encode-all (now .first)
-
-pub turned : (es : List Entry) (at : ℕ) {was is : Records} → gives Steps told was (placed at es) → Steps was None is → es ≡ []
-turned [] at pass step = refl
-turned (e ∷ es) at {was} {is} pass step = absurd (pass .0 is step)
 
 -- the pass has read the records es from the start of the bytes, and they lead to the stage
 pub record Sofar (bytes : List ℕ) (es : List Entry) (stage : Stage) (r : Records) : Type 0 where
@@ -76,14 +28,6 @@ pub record Sofar (bytes : List ℕ) (es : List Entry) (stage : Stage) (r : Recor
   pub input : r .input .now ≡ bytes
   pub place : r .place ≡ length (encode-all es)
   pub front : bytes ≡ encode-all es ++ rest-of r
-
-pub started : {bytes : List ℕ} {r : Records} → Begins bytes r → Sofar bytes [] Start r
-started {bytes} {r} b = record {
-  run = refl;
-  input = b .input;
-  place = b .place;
-  front = sym (ap (λ n. drop n (r .input .now)) (b .place) ∙ b .input);
-}
 
 module _ {bytes : List ℕ} {es : List Entry} {stage : Stage} {was : Records} (sofar : Sofar bytes es stage was) where
   pub more : {t : Token} {is : Records} {next : Stage} → Reads t was is → follow stage (entry (t .record)) ≡ Some next → Sofar bytes (es ++ entry (t .record) ∷ []) next is
