@@ -1,3 +1,5 @@
+//! Why calls refuse, and the numbers that say so in files and answers.
+
 ghost use mathlib.Core.Path.{_≡_};
 ghost use Rattle.graph.specs.Refusals.{refusal-number};
 

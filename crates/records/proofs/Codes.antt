@@ -1,60 +1,40 @@
--- No record's bytes begin with another's. Assumes nothing.
+-- No record's bytes begin with another's, since a record can be told from its bytes. Assumes nothing.
 use mathlib.Core.Path.{_≡_, refl, sym, ap, _∙_}
+use mathlib.Core.Bool.{cond}
 use mathlib.Core.List.{List, [], _++_}
-use Prim.Native.Nat.{ℕ, _/_, _%_, _<_}
+use Prim.Native.Nat.{ℕ, _+_, _*_, _/_, _%_, _<_}
 use native.Mathlib.Omega.{arith}
-use lib.ListN.{length, getD, length-append}
+use lib.Dec.{eqb}
+use lib.ListN.{length, getD, take, drop, length-append}
 use Rattle.std.proofs.shelf.Lists.{take-at, drop-at}
 use Rattle.records.specs.Format.{Entry, header, rule, edge, end, encode}
 
-same-two : (m n : ℕ) → m / 256 ≡ n / 256 → m % 256 ≡ n % 256 → m ≡ n
-same-two m n high low = omega arith
+-- the number whose two bytes stand at i
+abbrev number-at : List ℕ → ℕ → ℕ
+number-at bytes i = getD bytes i 0 * 256 + getD bytes (i + 1) 0
 
-same-parts : (xs ys s t : List ℕ) → length xs ≡ length ys → xs ++ s ≡ ys ++ t → (xs ≡ ys) × (s ≡ t)
-same-parts xs ys s t long e =
-    let a = take-at xs s (length xs) refl in
-    let b = take-at ys t (length xs) (sym long) in
-    let c = drop-at xs s (length xs) refl in
-    let d = drop-at ys t (length xs) (sym long) in
-    (cc, cc)
+-- the record that the bytes begin with, by the second letter of its mark, and the bytes behind it
+abbrev told-from : List ℕ → Entry × List ℕ
+told-from bytes =
+    cond (eqb (getD bytes 1 0) 82)
+    (header (getD bytes 2 0) (number-at bytes 3), drop 5 bytes)
+    (cond (eqb (getD bytes 1 0) 76)
+    (rule (getD bytes 2 0) (take (getD bytes 3 0) (drop 4 bytes)), drop (getD bytes 3 0) (drop 4 bytes))
+    (cond (eqb (getD bytes 1 0) 68) (edge (getD bytes 2 0) (number-at bytes 3) (number-at bytes 5), drop 7 bytes) (end, drop 2 bytes)))
 
--- the second letters of the marks differ
-apart : {s t : List ℕ} → s ≡ t → getD s 1 0 ≡ getD t 1 0
-apart e = ap (λ l. getD l 1 0) e
+high-and-low : (n : ℕ) → n / 256 * 256 + n % 256 ≡ n
+high-and-low n = omega arith
+
+told-encoded : (e : Entry) (s : List ℕ) → told-from (encode e ++ s) ≡ (e, s)
+told-encoded (header labels nodes) s = ap (λ n. (header labels n, s)) (high-and-low nodes)
+told-encoded (rule head items) s = let front = take-at items s (length items) refl in let back = drop-at items s (length items) refl in cc
+told-encoded (edge label from to) s = let f = high-and-low from in let t = high-and-low to in cc
+told-encoded end s = refl
 
 pub same-front : (e f : Entry) (s t : List ℕ) → encode e ++ s ≡ encode f ++ t → (e ≡ f) × (s ≡ t)
-same-front (header l n) (header k m) s t h =
-    let high : n / 256 ≡ m / 256 = cc in
-    let low : n % 256 ≡ m % 256 = cc in
-    let nodes = same-two n m high low in
-    (cc, cc)
-same-front (rule x xs) (rule y ys) s t h =
-    let both : xs ++ s ≡ ys ++ t = cc in
-    let long : length xs ≡ length ys = cc in
-    let parts = same-parts xs ys s t long both in
-    let items = parts .0 in
-    (cc, parts .1)
-same-front (edge l n m) (edge k p q) s t h =
-    let high : n / 256 ≡ p / 256 = cc in
-    let low : n % 256 ≡ p % 256 = cc in
-    let high′ : m / 256 ≡ q / 256 = cc in
-    let low′ : m % 256 ≡ q % 256 = cc in
-    let from = same-two n p high low in
-    let to = same-two m q high′ low′ in
-    (cc, cc)
-same-front end end s t h = (refl, cc)
-same-front (header l n) (rule y ys) s t h = absurd (omega (arith, apart h))
-same-front (header l n) (edge k p q) s t h = absurd (omega (arith, apart h))
-same-front (header l n) end s t h = absurd (omega (arith, apart h))
-same-front (rule x xs) (header k m) s t h = absurd (omega (arith, apart h))
-same-front (rule x xs) (edge k p q) s t h = absurd (omega (arith, apart h))
-same-front (rule x xs) end s t h = absurd (omega (arith, apart h))
-same-front (edge l n m) (header k p) s t h = absurd (omega (arith, apart h))
-same-front (edge l n m) (rule y ys) s t h = absurd (omega (arith, apart h))
-same-front (edge l n m) end s t h = absurd (omega (arith, apart h))
-same-front end (header k m) s t h = absurd (omega (arith, apart h))
-same-front end (rule y ys) s t h = absurd (omega (arith, apart h))
-same-front end (edge k p q) s t h = absurd (omega (arith, apart h))
+same-front e f s t h =
+    let same : (e, s) ≡ (f, t) = sym (told-encoded e s) ∙ ap told-from h ∙ told-encoded f t in
+    (ap (λ p. p .0) same, ap (λ p. p .1) same)
 
 -- and none is empty
 pub not-empty : (e : Entry) → 0 < length (encode e)

@@ -15,6 +15,7 @@ use Rattle.records.specs.Format.{IsFile}
 use Rattle.records.specs.Shape.{Stops}
 use Rattle.records.specs.Writing.{after-put}
 
+-- why, and where
 abbrev pub fault : Refusal → ℕ → Fault
 fault refusal place = record { refusal = refusal; place = place }
 
@@ -22,7 +23,7 @@ fault refusal place = record { refusal = refusal; place = place }
 abbrev pub copy-answer : List ℕ → List ℕ → Result ℕ Fault
 copy-answer bytes memory = cond (ltb (length memory) (length bytes)) (Err (fault Short (length bytes))) (Ok (length bytes))
 
--- bytes that are a file come back byte for byte at the front of the memory; all others are refused with the place where they stop being one, and the memory stays as it was
+-- Bytes that are a file come back byte for byte at the front of the memory, or are refused for want of room; all others are refused with the place where they stop being one. A refusal leaves the memory as it was.
 pub record Copies (bytes was is : List ℕ) (r : Result ℕ Fault) : Type 0 where
   pub either : IsFile bytes ⊎ ((place : ℕ) × Stops bytes place)
   pub file : IsFile bytes → (r ≡ copy-answer bytes was) × (is ≡ after-put bytes was)

@@ -47,6 +47,7 @@ Front bytes None = NoRecord bytes
 abbrev pub rest-of : Records → List ℕ
 rest-of r = drop (r .place) (r .input .now)
 
+-- a pass stands at the start of the bytes
 pub record Begins (bytes : List ℕ) (r : Records) : Type 0 where
   pub input : r .input .now ≡ bytes
   pub place : r .place ≡ 0

@@ -37,6 +37,7 @@ pub record NoEnd (bytes : List ℕ) (place : ℕ) : Type 0 where
   pub front : bytes ≡ encode-all before
   pub here : place ≡ length bytes
 
+-- the place where bytes that are no file stop being one. A reading of bytes finds just one such place, or that they are a file
 pub data Stops (bytes : List ℕ) (place : ℕ) : Type 0 where
   bad-record : BadRecord bytes place → Stops bytes place
   after-end : AfterEnd bytes place → Stops bytes place

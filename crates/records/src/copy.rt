@@ -1,3 +1,5 @@
+//! A whole file from one memory to another, record by record.
+
 ghost use mathlib.Core.Path.{_≡_};
 ghost use Rattle.graph.specs.declared.refusal.Refusal.the-variants.{Shape};
 ghost use Rattle.records.specs.Copying.{fault, Copies};
@@ -12,7 +14,9 @@ use graph::RefusalPartialEq;
 /// Why a file was refused, and at which byte place.
 #[derive(Clone, Copy, Debug, PartialEq, Eq)]
 pub struct Fault {
+    /// Why.
     pub refusal: Refusal,
+    /// How many bytes stand before the place.
     pub place: usize,
 }
 

@@ -1,3 +1,5 @@
+//! Whole files. The bytes are gone over once, and each record has to be one that a file may have there.
+
 ghost use mathlib.Core.Path.{_≡_};
 ghost use Rattle.records.specs.Reading.{entry, bytes-of, Passes, Reading, Exact};
 ghost use Rattle.records.specs.Stages.{follow};
@@ -11,9 +13,10 @@ pub struct File<'a> {
     bytes: &'a [u8],
 }
 
-/// The bytes are no file: the place where they stop being one.
+/// Why bytes are no file: at this place they stop being one.
 #[derive(Clone, Copy, Debug, PartialEq, Eq)]
 pub struct Misshapen {
+    /// How many bytes stand before the place.
     pub place: usize,
 }
 

@@ -1,3 +1,5 @@
+//! One record at the front of some bytes: its mark first, and then a function for the fields of each kind.
+
 ghost use mathlib.Core.List.{_++_};
 ghost use lib.Chars.{codes};
 ghost use Rattle.records.specs.Reading.{Front};
@@ -19,6 +21,7 @@ pub(crate) fn front(bytes: &[u8]) -> Option<Record<'_>>
     }
 }
 
+/// The header that the mark GR and `fields` begin with.
 fn header(fields: &[u8]) -> Option<Record<'_>>
     ensures { λ r. ⌜ Front (codes "GR" ++ now (fields .entry)) r ⌝ }
 {
@@ -31,6 +34,7 @@ fn header(fields: &[u8]) -> Option<Record<'_>>
     })
 }
 
+/// The rule that the mark RL and `fields` begin with. Its items are a part of `fields`.
 fn rule(fields: &[u8]) -> Option<Record<'_>>
     ensures { λ r. ⌜ Front (codes "RL" ++ now (fields .entry)) r ⌝ }
 {
@@ -41,6 +45,7 @@ fn rule(fields: &[u8]) -> Option<Record<'_>>
     Some(Record::Rule { head: *head, items })
 }
 
+/// The edge that the mark ED and `fields` begin with.
 fn edge(fields: &[u8]) -> Option<Record<'_>>
     ensures { λ r. ⌜ Front (codes "ED" ++ now (fields .entry)) r ⌝ }
 {

@@ -1,3 +1,5 @@
+//! A pass over the records of a file.
+
 ghost use denote.Ref.{now};
 ghost use Prim.Native.Nat.{_≤_};
 ghost use lib.ListN.{length};

@@ -1,3 +1,5 @@
+//! What one record says, in a file and in output.
+
 ghost use mathlib.Core.Path.{_≡_};
 ghost use lib.ListN.{length};
 ghost use Rattle.records.specs.Format.{encode};
@@ -36,7 +38,9 @@ impl Record<'_> {
 /// A record of a file, with the byte place of its mark.
 #[derive(Clone, Copy, Debug, PartialEq)]
 pub struct Token<'a> {
+    /// How many bytes stand before the record's mark.
     pub place: usize,
+    /// What the record says.
     pub record: Record<'a>,
 }
 

@@ -1,3 +1,5 @@
+//! One record a call, to the front of the memory that is left. The room is looked at before anything is written.
+
 ghost use mathlib.Core.Path.{_≡_};
 ghost use Rattle.records.specs.Format.{encode-output, rule};
 ghost use Rattle.records.specs.Reading.{entry};
@@ -19,6 +21,7 @@ fn put(bytes: &[u8], out: &mut [u8]) -> Result<usize, Refusal>
     Ok(size)
 }
 
+/// Writes a rule to the front of `out`, and says how many bytes it took.
 fn put_rule(head: u8, items: &[u8], out: &mut [u8]) -> Result<usize, Refusal>
     ensures answer { λ r. ⌜ r ≡ write-answer (rule head (now (items .entry))) (now (out .entry)) ⌝ }
     ensures memory { λ _. ⌜ now (out .exit) ≡ after-write (rule head (now (items .entry))) (now (out .entry)) ⌝ }

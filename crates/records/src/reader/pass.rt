@@ -1,3 +1,5 @@
+//! How a pass begins and goes on. Each record is found where the one before it ends.
+
 ghost use mathlib.Core.Path.{_≡_};
 ghost use denote.Ref.{now};
 ghost use Prim.Native.Nat.{_-_};
