@@ -17,7 +17,7 @@ use Rattle.records.specs.Writing.{after-put}
 use Rattle.records.proofs.Places.{not-a-file, one-place, stops-within}
 use Rattle.report.specs.Reply.{limit, refusal-record, Answers, Replies, Limited}
 
--- what is known of a refused copy
+-- what is known of a copy that is refused, and of one that is made
 pub record Refused (input was is : List ℕ) (f : Fault) : Type 0 where
   pub small : f .place ≤ limit
   pub same : is ≡ was
