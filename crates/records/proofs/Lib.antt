@@ -1,5 +1,6 @@
 mod Marks
 pub mod Codes
+mod Ranges
 mod Runs
 pub mod Places
 pub mod Turns

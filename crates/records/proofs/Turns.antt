@@ -47,6 +47,6 @@ turn (e ∷ es) at {was} {is} {t} pass step =
 pub ahead : {es : List Entry} {at : ℕ} {is : Records} {t : Token} {rest : List ℕ} → rest ≡ encode-all es → (now : Turn at es t is) → rest ≡ encode (entry (t .record)) ++ encode-all (now .later)
 ahead rest now = rest ∙ ap encode-all (now .first)
 
-pub turned : (es : List Entry) (at : ℕ) {was is : Records} → gives Steps told was (placed at es) → Steps was None is → es ≡ []
-turned [] at pass step = refl
-turned (e ∷ es) at {was} {is} pass step = absurd (pass .0 is step)
+pub ended : (es : List Entry) (at : ℕ) {was is : Records} → gives Steps told was (placed at es) → Steps was None is → es ≡ []
+ended [] at pass step = refl
+ended (e ∷ es) at {was} {is} pass step = absurd (pass .0 is step)

@@ -1,8 +1,8 @@
 -- The format of record files: what a record says, and the bytes that say it. Assumes nothing.
--- A field is a number of any size here, and its range comes from the bytes: a field of 8 bits is itself one of the bytes, and a wider one that did not fit would have a high byte over 255. So a list of bytes encodes only fields that fit.
+-- A field is a number of any size here, and its range (`InRange`) comes from the bytes: a field of 8 bits is itself one of the bytes, and a wider one that did not fit would have a high byte over 255.
 use mathlib.Core.Path.{_≡_}
 use mathlib.Core.List.{List, [], _∷_, _++_}
-use Prim.Native.Nat.{ℕ, _+_, _/_, _%_}
+use Prim.Native.Nat.{ℕ, _+_, _/_, _%_, _<_}
 use lib.Chars.{codes}
 use lib.ListN.{length}
 use Rattle.std.specs.Joined.{joined}
@@ -31,6 +31,13 @@ encode (header labels nodes) = codes "GR" ++ (labels ∷ two nodes)
 encode (rule head items) = codes "RL" ++ (head ∷ length items ∷ items)
 encode (edge label from to) = codes "ED" ++ (label ∷ (two from ++ two to))
 encode end = codes "EN"
+
+-- the fields are of 8 and of 16 bits, and the items are bytes, at most 255 of them
+abbrev pub InRange : Entry → Type 0
+InRange (header labels nodes) = (labels < 256) × (nodes < 65536)
+InRange (rule head items) = (head < 256) × (length items < 256) × Every (λ item. item < 256) items
+InRange (edge label from to) = (label < 256) × (from < 65536) × (to < 65536)
+InRange end = Unit {0}
 
 -- the bytes of a record that stands in output alone
 abbrev pub encode-output : Output → List ℕ

@@ -6,6 +6,7 @@ use Prim.Native.Nat.{ℕ, _+_}
 use lib.ListN.{length, drop}
 use Rattle.std.specs.Iters.{gives}
 use Rattle.std.specs.Results.{isOk}
+use Rattle.std.specs.Vec.{Every}
 use Rattle.std.specs.declared.option.Option.{Option}
 use Rattle.std.specs.declared.option.Option.the-variants.{Some, None}
 use Rattle.std.specs.declared.result.Result.{Result}
@@ -16,7 +17,7 @@ use Rattle.records.specs.declared.reader.Records.{Records}
 use Rattle.records.specs.declared.record.Record.{Record}
 use Rattle.records.specs.declared.record.Record.the-variants.{Header, Rule, Edge, End}
 use Rattle.records.specs.declared.record.Token.{Token}
-use Rattle.records.specs.Format.{Entry, header, rule, edge, end, encode, encode-all, IsFile, placed}
+use Rattle.records.specs.Format.{Entry, header, rule, edge, end, encode, encode-all, InRange, IsFile, placed}
 use Rattle.records.specs.Shape.{Stops}
 
 -- what a record says
@@ -67,6 +68,10 @@ Steps was None is = (is ≡ was) × NoRecord (rest-of was)
 -- calls of next give just the records that the bytes encode, in order, each with its place, and then none
 abbrev pub Passes : List ℕ → Records → Type 0
 Passes bytes r = (es : List Entry) → bytes ≡ encode-all es → gives Steps told r (placed 0 es)
+
+-- the fields of whatever records the bytes encode are in their ranges
+abbrev pub Ranged : List ℕ → Type 0
+Ranged bytes = (es : List Entry) → bytes ≡ encode-all es → Every InRange es
 
 -- a file is accepted, and anything else refused with the place where it stops being one
 abbrev pub Reading : List ℕ → Result File Misshapen → Type 0

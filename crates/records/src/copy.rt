@@ -31,7 +31,7 @@ pub impl From<Misshapen> for Fault as FaultFromMisshapen {
     }
 }
 
-/// Reads `bytes` as a file, writes it record by record to the front of `out`, and says how many bytes that took.
+/// Reads `bytes` as a file, writes it record by record to the front of `out`, and says how many bytes that took. Refuses other bytes with SHAPE at their place, then a file that has no room with SHORT at its length, and leaves `out` as it was.
 pub fn copy_file(bytes: &[u8], out: &mut [u8]) -> Result<usize, Fault>
     ensures { λ r. ⌜ Copies (now (bytes .entry)) (now (out .entry)) (now (out .exit)) r ⌝ }
 {

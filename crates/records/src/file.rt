@@ -1,7 +1,7 @@
 //! Whole files. The bytes are gone over once, and each record has to be one that a file may have there.
 
 ghost use mathlib.Core.Path.{_≡_};
-ghost use Rattle.records.specs.Reading.{entry, bytes-of, Passes, Reading, Exact};
+ghost use Rattle.records.specs.Reading.{entry, bytes-of, Passes, Ranged, Reading, Exact};
 ghost use Rattle.records.specs.Stages.{follow};
 use crate::reader::Records;
 use crate::reader::RecordsIterator;
@@ -50,6 +50,7 @@ impl<'a> File<'a> {
     pub fn read(bytes: &'a [u8]) -> Result<Self, Misshapen>
         ensures cases { λ r. ⌜ Reading (now (bytes .entry)) r ⌝ }
         ensures exact { λ r. ⌜ Exact (now (bytes .entry)) r ⌝ }
+        ensures ranges { λ _. ⌜ Ranged (now (bytes .entry)) ⌝ }
     {
         let mut records = Records::new(bytes);
         let mut stage = Stage::Start;

@@ -39,7 +39,7 @@ fn put_rule(head: u8, items: &[u8], out: &mut [u8]) -> Result<usize, Refusal>
 }
 
 impl Record<'_> {
-    /// Writes the record to the front of `out`, and says how many bytes it took.
+    /// Writes the record to the front of `out`, and says how many bytes it took. Refuses a rule of over 255 items with LONG, then a record that has no room with SHORT, and leaves `out` as it was.
     pub fn write(&self, out: &mut [u8]) -> Result<usize, Refusal>
         ensures answer { λ r. ⌜ r ≡ write-answer (entry (now (self .entry))) (now (out .entry)) ⌝ }
         ensures memory { λ _. ⌜ now (out .exit) ≡ after-write (entry (now (self .entry))) (now (out .entry)) ⌝ }
@@ -61,7 +61,7 @@ impl Record<'_> {
 }
 
 impl Output {
-    /// Writes the record to the front of `out`, and says how many bytes it took.
+    /// Writes the record to the front of `out`, and says how many bytes it took. Refuses with SHORT where it has no room, and leaves `out` as it was.
     pub fn write(&self, out: &mut [u8]) -> Result<usize, Refusal>
         ensures answer { λ r. ⌜ r ≡ put-answer (encode-output (now (self .entry))) (now (out .entry)) ⌝ }
         ensures memory { λ _. ⌜ now (out .exit) ≡ after-put (encode-output (now (self .entry))) (now (out .entry)) ⌝ }

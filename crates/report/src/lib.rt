@@ -22,7 +22,7 @@ fn copy_limited(input: &[u8], out: &mut [u8]) -> Result<usize, Fault>
     copy_file(input, out)
 }
 
-/// Writes the answer to `input` to the front of `out`, and says how many bytes it has.
+/// Writes the answer to `input` to the front of `out`, and says how many bytes it has: the file itself, or one NO record. Refuses with SHORT where the answer has no room, and leaves `out` as it was.
 pub fn reply(input: &[u8], out: &mut [u8]) -> Result<usize, Refusal>
     ensures { λ r. ⌜ Replies (now (input .entry)) (now (out .entry)) (now (out .exit)) r ⌝ }
 {

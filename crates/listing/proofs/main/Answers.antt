@@ -4,7 +4,7 @@ use native.Mathlib.Omega.{arith}
 use lib.ListN.{length}
 use Rattle.std.specs.Results.{isOk}
 use Rattle.report.specs.Reply.{limit}
-use Rattle.report.proofs.Told.{answered}
+use Rattle.report.proofs.Ends.{answered}
 use Rattle.listing.proofs.main.Needs as need
 
 -- the memory has as many bytes as the longest answer, so it is never too short

@@ -1,6 +1,6 @@
 use native.Mathlib.Omega.{arith}
 use Rattle.report.specs.Reply.{refusal-record}
-use Rattle.report.proofs.Told.{copied, replied, refused}
+use Rattle.report.proofs.Ends.{copied, replied, refused}
 use Rattle.report.proofs.reply.Needs as need
 
 pub cast-refused : need.cast-refused

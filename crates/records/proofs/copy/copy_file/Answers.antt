@@ -12,7 +12,7 @@ use Rattle.records.specs.Reading.{entry, told, Steps}
 use Rattle.records.proofs.Copied.{copied, refused}
 use Rattle.records.proofs.Memory.{written, copied-more}
 use Rattle.records.proofs.Marks.{further}
-use Rattle.records.proofs.Turns.{turn, ahead, turned}
+use Rattle.records.proofs.Turns.{turn, ahead, ended}
 use Rattle.records.proofs.copy.copy_file.Needs as need
 
 pub returns-in-Break-file : need.returns-in-Break-file
@@ -64,7 +64,7 @@ returns c =
     let inv = c .loop-token .inv in
     let bytes = c .args .bytes .now in
     let at = c .loop-token .written in
-    let none : drop at bytes ≡ [] = inv .2 ∙ ap encode-all (turned (inv .0) at (inv .1) (c .in-None .ensures tt .steps)) in
+    let none : drop at bytes ≡ [] = inv .2 ∙ ap encode-all (ended (inv .0) at (inv .1) (c .in-None .ensures tt .steps)) in
     let all : at ≡ length bytes = omega (arith, sym (length-drop at bytes) ∙ ap length none) in
     let fits = le-ltb (length (c .args .out .now)) (length bytes) (omega arith) in
     copied (c .in-Continue-file .ensures tt .cases .0) (rw (fits, all) refl) (rw fits (inv .4 ∙ ap (λ n. take n bytes ++ drop n (c .args .out .now)) all ∙ ap (λ l. l ++ drop (length bytes) (c .args .out .now)) (take-all (length bytes) bytes (omega arith))))
