@@ -1,0 +1,9 @@
+mod Turning
+mod Derivations
+pub mod Paths
+pub mod Definedness
+pub mod Listed
+pub mod Tested
+pub mod Saturated
+mod Worked
+mod Ungrounded
