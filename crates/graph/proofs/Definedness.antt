@@ -2,7 +2,6 @@
 -- Assumes nothing.
 use mathlib.Core.Path.{_≡_, refl, sym, subst}
 use mathlib.Core.Logic.{inl, inr}
-use mathlib.Core.Bool.{true}
 use mathlib.Core.List.{[], _∷_, _++_}
 use Prim.Native.Nat.{ℕ, _<_}
 use Rattle.std.proofs.shelf.Tests.{cases-bool}
@@ -23,11 +22,11 @@ defined-grows places places′ R R′ E E′ nodes rules edges X u v d =
     (d .0, more-becomes rules (d .1), carried edges nodes (d .0) u v (d .2))
 
 -- wherever a rule leads over the relation, its head holds
-abbrev pub Shut : Nodes → Grammar → Relation → Type 0
+abbrev Shut : Nodes → Grammar → Relation → Type 0
 Shut places R P = Implies (Leads places R P) P
 
 -- a set that leaves none due is shut, since each triple is in it or not
-pub settled-shut : (places : Nodes) (R : Grammar) (H : Triples) → None-due places R H → Shut places R (Holds H)
+settled-shut : (places : Nodes) (R : Grammar) (H : Triples) → None-due places R H → Shut places R (Holds H)
 settled-shut places R H settled a u v leads =
     elim (cases-bool (H a u v)) [ inl e ↦ e | inr e ↦ absurd (settled a u v (e, leads)) ]
 
@@ -59,7 +58,7 @@ module _ (places : Nodes) (R : Grammar) (P : Relation) (grounded : Grounded plac
   becomes-back (replaced {s = s} {m = m} r d) u v h = replacement-back s m r u v (becomes-back d u v h)
 
   -- a path that spells a single forward item is a triple
-  pub shut-defined : (E : Triples) → Implies (Holds E) P → Implies (Defined places R E) P
+  shut-defined : (E : Triples) → Implies (Holds E) P → Implies (Defined places R E) P
   shut-defined E edges X u v d =
       let k = becomes-back (d .1) u v (carried edges (λ w h. h) (d .0) u v (d .2)) in
       subst (λ w. P X u w) (k .2 .0) (k .1)

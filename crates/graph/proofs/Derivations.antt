@@ -1,7 +1,7 @@
 -- Replacements one after another, beside other items, turned round, and under more rules.
 -- Assumes nothing.
 use mathlib.Core.Path.{refl, sym, _∙_}
-use mathlib.Core.List.{[], _∷_, _++_, append-assoc, append-nil}
+use mathlib.Core.List.{[], _++_, append-assoc, append-nil}
 use Rattle.graph.specs.declared.item.Item.the-variants.{Forward}
 use Rattle.graph.specs.Grammar.{String, Rule, Grammar, _∈_, Extends, turned-item, turned, Replacement, Becomes, Becomes.stays, Becomes.replaced, Derives}
 use Rattle.graph.proofs.Turning.{turned-item-label, turned-append, turned-around, turned-in-place}

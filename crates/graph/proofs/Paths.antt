@@ -10,8 +10,8 @@ use Rattle.graph.specs.Grammar.{String, turned-item, turned}
 use Rattle.graph.specs.Graph.{Relation, Implies, Nodes, Nodes-within, Between, Grounded, Takes, Spells}
 
 takes-carried : {P Q : Relation} → Implies P Q → (x : Item) (u w : ℕ) → Takes P x u w → Takes Q x u w
-takes-carried f (Forward y) u w h = f y u w h
-takes-carried f (Reversed y) u w h = f y w u h
+takes-carried f (Forward y) u w h = f y _ _ h
+takes-carried f (Reversed y) u w h = f y _ _ h
 
 pub carried : {P Q : Relation} → Implies P Q → {places places′ : Nodes} → Nodes-within places places′ →
     (s : String) (u v : ℕ) → Spells places P u v s → Spells places′ Q u v s

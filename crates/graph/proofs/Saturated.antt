@@ -2,9 +2,8 @@
 -- Assumes nothing.
 use mathlib.Core.Path.{_≡_, refl, ap}
 use mathlib.Core.Logic.{_⊎_, inl, inr}
-use mathlib.Core.Bool.{true, false}
 use mathlib.Core.List.{List, [], _∷_, _++_, List·Memᴰ·not-nil, Memᴰ·append-left, Memᴰ·append-right, List·Memᴰ·append-cases}
-use Prim.Native.Nat.{ℕ, zero, suc, _<_, _≤_}
+use Prim.Native.Nat.{ℕ, zero, suc, _≤_}
 use native.Mathlib.Omega.{arith}
 use lib.ListN.{length}
 use Rattle.std.proofs.shelf.Tests.{false≢true, ltb-true}
@@ -12,7 +11,6 @@ use Rattle.graph.specs.Grammar.{Grammar, Heads-below}
 use Rattle.graph.specs.Graph.{Triple, Triples, set-of, Holds, Implies, Within, Nodes, below, Nodes-within, Grounded, In-range}
 use Rattle.graph.specs.Reachability.{Defined, Leads, None-due, Solves}
 use Rattle.graph.specs.Saturation.{leads?, inside, outside, unless-none, saturate, all-triples, saturation, Saturation-exact}
-use Rattle.graph.proofs.Paths.{spells-between}
 use Rattle.graph.proofs.Definedness.{edges-defined, defined-in-range, leads-defined, solution-exact}
 use Rattle.graph.proofs.Listed.{Listed, set-listed, listed-set, inside-has, inside-holds, parted, parted-length, all-has}
 use Rattle.graph.proofs.Tested.{leads-told, leads-tested}
@@ -123,9 +121,7 @@ module _ (l n : ℕ) (places : Nodes) (R : Grammar) (E : Triples)
       either a u v h = parted E all a u v (all-in-range a u v h)
 
   saturation-solves : Solves places R E (saturation l n places R E)
-  saturation-solves =
-      let missing = outside E (all-triples l n) in
-      saturate-solves (length missing) (inside E (all-triples l n)) missing (omega arith) begins
+  saturation-solves = saturate-solves _ (inside E (all-triples l n)) (outside E (all-triples l n)) (omega arith) begins
 
 pub saturation-exact : Saturation-exact
 saturation-exact l n places R E nodes edges-in heads =

@@ -2,13 +2,13 @@
 -- So 1 derives the string 0, and is defined from 1 to 0. But 2 is due at node 0 alone: once it is held there, none is due, and (1, 1, 0) is not held.
 -- Assumes nothing.
 use mathlib.Core.Path.{_≡_, refl, sym, ap, subst, _∙_}
-use mathlib.Core.Bool.{true, false}
+use mathlib.Core.Bool.{true}
 use mathlib.Core.List.{[], _∷_, List·Memᴰ.List·Memᴰ·head, List·Memᴰ.List·Memᴰ·tail}
 use Prim.Native.Nat.{ℕ}
 use native.Mathlib.Omega.{arith}
 use Rattle.std.proofs.shelf.Tests.{false≢true, ltb-true}
 use Rattle.graph.specs.declared.item.Item.the-variants.{Forward}
-use Rattle.graph.specs.Grammar.{Rule, Grammar, _∈_, Becomes.stays, Becomes.replaced}
+use Rattle.graph.specs.Grammar.{Rule, Grammar, Becomes.stays, Becomes.replaced}
 use Rattle.graph.specs.Graph.{triple, Triples, set-of, Holds, Within, below, Spells}
 use Rattle.graph.specs.Reachability.{Defined, None-due}
 use Rattle.graph.specs.Laws.{Ground-needed}

@@ -3,7 +3,6 @@
 use mathlib.Core.Path.{_≡_, refl, sym, subst}
 use mathlib.Core.Bool.{Bool, true, _&&_}
 use mathlib.Core.List.{List, [], _∷_, List·Memᴰ.List·Memᴰ·head, List·Memᴰ.List·Memᴰ·tail}
-use Prim.Native.Nat.{ℕ}
 use lib.Dec.{ltb}
 use Rattle.std.proofs.shelf.Tests.{ltb-true, and-parts}
 use Rattle.graph.specs.Grammar.{_∈_, Heads-below}
