@@ -11,6 +11,7 @@ module _ {R : Grammar} where
   chained stays e = e
   chained (replaced r d) e = replaced r (chained d e)
 
+  -- a replacement beside other items
   put-before : (b s t : String) → Replacement R s t → Replacement R (b ++ s) (b ++ t)
   put-before b s t r = record {
     before = b ++ r .before;
@@ -47,6 +48,7 @@ module _ {R : Grammar} where
   pub beside : {s t s′ t′ : String} → Becomes R s t → Becomes R s′ t′ → Becomes R (s ++ s′) (t ++ t′)
   beside {s} {t} {s′} {t′} d e = chained (becomes-after s′ d) (becomes-before t e)
 
+  -- the turned string has the turned item, which is replaced by the same rule
   replacement-turned : (s t : String) → Replacement R s t → Replacement R (turned s) (turned t)
   replacement-turned s t r = record {
     before = turned (r .after);
@@ -76,6 +78,7 @@ module _ {R : Grammar} where
     put = sym (append-nil (p .items));
   }) stays
 
+-- a replacement by a rule that is granted is one where more rules are
 pub more-becomes : {R R′ : Grammar} → Extends R R′ → {s t : String} → Becomes R s t → Becomes R′ s t
 more-becomes f stays = stays
 more-becomes f (replaced r d) = replaced (record {

@@ -15,6 +15,7 @@ use Rattle.graph.specs.Saturation.{keep, inside, outside, to-all, from-all, al
 abbrev pub Listed : List Triple → Relation
 Listed ts a u v = List·Memᴰ (triple a u v) ts
 
+-- the test of one triple
 is-same : (t : Triple) (a u v : ℕ) → is t a u v ≡ true → triple a u v ≡ t
 is-same t a u v h =
     let k = and-parts (eqb (t .label) a) (eqb (t .from) u && eqb (t .to) v) h in
@@ -28,6 +29,7 @@ is-itself : (a u v : ℕ) → is (triple a u v) a u v ≡ true
 is-itself a u v =
     and-from (eqb a a) (eqb u u && eqb v v) (eq-eqb a a refl) (and-from (eqb u u) (eqb v v) (eq-eqb u u refl) (eq-eqb v v refl))
 
+-- the set of a list, and the list
 pub set-listed : (ts : List Triple) (a u v : ℕ) → Holds (set-of ts) a u v → Listed ts a u v
 set-listed [] a u v h = absurd (false≢true h)
 set-listed (t ∷ ts) a u v h =
@@ -87,6 +89,7 @@ kept-once : (b : Bool) (t : Triple) (xs ys : List Triple) → length (keep b t x
 kept-once true t xs ys = omega arith
 kept-once false t xs ys = omega arith
 
+-- and on one only: the lengths add up
 pub parted-length : (A : Triples) (ts : List Triple) → length (inside A ts) + length (outside A ts) ≡ length ts
 parted-length A [] = omega arith
 parted-length A (t ∷ ts) = omega (arith, kept-once (in-set A t) t (inside A ts) (outside A ts), parted-length A ts)

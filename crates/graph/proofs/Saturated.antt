@@ -9,9 +9,9 @@ use lib.ListN.{length}
 use Rattle.std.proofs.shelf.Tests.{false≢true, ltb-true}
 use Rattle.graph.specs.Grammar.{Grammar, Heads-below}
 use Rattle.graph.specs.Graph.{Triple, Triples, set-of, Holds, Implies, Within, Nodes, below, Nodes-within, Grounded, In-range}
-use Rattle.graph.specs.Reachability.{Defined, Leads, None-due, Solves}
+use Rattle.graph.specs.Reachability.{Defined, None-due, Solves}
 use Rattle.graph.specs.Saturation.{leads?, inside, outside, unless-none, saturate, all-triples, saturation, Saturation-exact}
-use Rattle.graph.proofs.Definedness.{edges-defined, defined-in-range, leads-defined, solution-exact}
+use Rattle.graph.proofs.Definedness.{edges-defined, leads-in-range, defined-in-range, leads-defined, solution-exact}
 use Rattle.graph.proofs.Listed.{Listed, set-listed, listed-set, inside-has, inside-holds, parted, parted-length, all-has}
 use Rattle.graph.proofs.Tested.{leads-told, leads-tested}
 
@@ -32,11 +32,6 @@ module _ (l n : ℕ) (places : Nodes) (R : Grammar) (E : Triples)
   held-grounded : {held missing : List Triple} → Underway held missing → Grounded places (Holds (set-of held))
   held-grounded k a u v h = defined-in-range l places R E edges-in heads a u v (k .defined a u v h) .1
 
-  -- a rule leads by held triples to triples in range alone, since these are defined
-  led-in-range : {held missing : List Triple} → Underway held missing → Implies (Leads places R (Holds (set-of held))) (In-range l places)
-  led-in-range {held} {missing} k a u v h =
-      defined-in-range l places R E edges-in heads a u v (leads-defined places R E grounded (set-of held) (k .defined) a u v h)
-
   -- where no rule leads to a missing triple, what is held is a solution
   rests : (held missing : List Triple) → Underway held missing →
       ((a u v : ℕ) → Listed missing a u v → Holds (leads? n places R (set-of held)) a u v → ⊥) → Solves places R E (set-of held)
@@ -44,12 +39,12 @@ module _ (l n : ℕ) (places : Nodes) (R : Grammar) (E : Triples)
     where
       settled : None-due places R (set-of held)
       settled a u v (e, h) =
-          elim (k .either a u v (led-in-range k a u v h)) [
+          elim (k .either a u v (leads-in-range l places R (Holds (set-of held)) (held-grounded k) heads a u v h)) [
             | inl m ↦ false≢true (rw e at (listed-set held a u v m))
             | inr m ↦ none a u v m (leads-tested n places (set-of held) nodes (held-grounded k) R a u v h)
           ]
 
-  -- a round
+  -- a round keeps all of that: what it moves is defined, since a rule leads to it by defined triples
   goes-on : (held missing : List Triple) → Underway held missing →
       let led = leads? n places R (set-of held) in Underway (inside led missing ++ held) (outside led missing)
   goes-on held missing k = record { edges = edges; defined = defined; either = either }
@@ -82,6 +77,7 @@ module _ (l n : ℕ) (places : Nodes) (R : Grammar) (E : Triples)
   none-listed [] e a u v m = List·Memᴰ·not-nil m
   none-listed (t ∷ ts) e a u v m = omega arith
 
+  -- rounds end where one finds nothing, or where nothing is missing, and by then there were enough of them
   saturate-solves : (rounds : ℕ) (held missing : List Triple) → length missing ≤ rounds → Underway held missing →
       Solves places R E (set-of (saturate n places R rounds held missing))
   saturate-solves zero held missing few k =
@@ -103,6 +99,7 @@ module _ (l n : ℕ) (places : Nodes) (R : Grammar) (E : Triples)
       round [] e go = rests held missing k (λ a u v m h. List·Memᴰ·not-nil (rw e at (inside-has led missing a u v m h)))
       round (t ∷ ts) e go = go (omega (arith, parted-length led missing, ap length e))
 
+  -- at the beginning the edges are held, and all else is missing
   begins : Underway (inside E (all-triples l n)) (outside E (all-triples l n))
   begins = record { edges = edges; defined = defined; either = either }
     where

@@ -16,12 +16,12 @@ use Rattle.graph.specs.Reachability.{Leads}
 use Rattle.graph.specs.Saturation.{some-below, takes?, spells?, leads?}
 use Rattle.graph.proofs.Paths.{takes-between}
 
-pub some-below-found : (n : ℕ) (test : ℕ → Bool) → some-below n test ≡ true → (w : ℕ) × (test w ≡ true)
+some-below-found : (n : ℕ) (test : ℕ → Bool) → some-below n test ≡ true → (w : ℕ) × (test w ≡ true)
 some-below-found zero test h = absurd (false≢true h)
 some-below-found (suc n) test h =
     elim (or-cases (test n) (some-below n test) h) [ inl e ↦ (n, e) | inr e ↦ some-below-found n test e ]
 
-pub some-below-from : (n : ℕ) (test : ℕ → Bool) (w : ℕ) → w < n → test w ≡ true → some-below n test ≡ true
+some-below-from : (n : ℕ) (test : ℕ → Bool) (w : ℕ) → w < n → test w ≡ true → some-below n test ≡ true
 some-below-from zero test w h e = absurd (omega arith)
 some-below-from (suc n) test w h e =
     elim (cases-eq w n) [
@@ -29,6 +29,7 @@ some-below-from (suc n) test w h e =
       | inr k ↦ or-right (test n) (some-below n test) (some-below-from n test w (omega arith) e)
     ]
 
+-- one step
 takes-told : (H : Triples) (x : Item) (u w : ℕ) → takes? H x u w ≡ true → Takes (Holds H) x u w
 takes-told H (Forward y) u w h = h
 takes-told H (Reversed y) u w h = h
@@ -38,6 +39,7 @@ takes-tested H (Forward y) u w h = h
 takes-tested H (Reversed y) u w h = h
 
 module _ (n : ℕ) (places : Nodes) (H : Triples) where
+  -- a test that says yes has found a path
   spells-told : (s : String) (u v : ℕ) → spells? n places H u v s ≡ true → Spells places (Holds H) u v s
   spells-told [] u v h = let k = and-parts (eqb u v) (places u) h in (eqb-true u v (k .0), k .1)
   spells-told (x ∷ s) u v h =
@@ -58,6 +60,7 @@ module _ (n : ℕ) (places : Nodes) (H : Triples) where
       ]
 
   module _ (nodes : Nodes-within places (below n)) (grounded : Grounded places (Holds H)) where
+    -- a path goes over nodes below n alone, so a test over these finds it
     spells-tested : (s : String) (u v : ℕ) → Spells places (Holds H) u v s → spells? n places H u v s ≡ true
     spells-tested [] u v h = and-from (eqb u v) (places u) (eq-eqb u v (h .0)) (h .1)
     spells-tested (x ∷ s) u v h =

@@ -26,9 +26,11 @@ items-onto : (s t : String) → map turned-item (reverseAux s t) ≡ reverseAux 
 items-onto [] t = refl
 items-onto (x ∷ s) t = items-onto s (x ∷ t)
 
+-- two parts change places
 pub turned-append : (s t : String) → turned (s ++ t) ≡ turned t ++ turned s
 turned-append s t = ap reverse (items-append s t) ∙ reverse-append (map turned-item s) (map turned-item t)
 
+-- so do the parts around an item
 pub turned-around : (b : String) (x : Item) (a : String) → turned (b ++ (x ∷ a)) ≡ turned a ++ (turned-item x ∷ turned b)
 turned-around b x a =
     turned-append b (x ∷ a) ∙ ap (λ s. s ++ turned b) (turned-append (x ∷ []) a) ∙ append-assoc (turned a) (turned-item x ∷ []) (turned b)
