@@ -7,7 +7,7 @@ use lib.Dec.{ltb}
 use Rattle.std.proofs.shelf.Tests.{ltb-true, and-parts}
 use Rattle.graph.specs.Grammar.{_∈_, Heads-below}
 use Rattle.graph.specs.Graph.{Triple, in-set, set-of, Holds, Implies, Within, below, In-range}
-use Rattle.graph.specs.Cases.{Case, cases, expected, every, edge-fits, head-fits, found, covers, case-holds, Case-exact, Worked-cases}
+use Rattle.graph.specs.Cases.{Case, matched-pairs, turned-twice, turned-order, nothing-else, only-itself, cases, expected, every, edge-fits, head-fits, found, covers, case-holds, Case-exact, Worked-cases}
 use Rattle.graph.proofs.Listed.{set-listed}
 use Rattle.graph.proofs.Saturated.{saturation-exact}
 
@@ -42,5 +42,15 @@ module _ (c : Case) where
 computed : every case-holds cases ≡ true
 computed = refl
 
+listed-exact : (c : Case) → c ∈ cases → Case-exact c
+listed-exact c i = case-exact c (every-each case-holds cases computed c i)
+
 pub worked-cases : Worked-cases
-worked-cases = (computed, λ c i. case-exact c (every-each case-holds cases computed c i))
+worked-cases = (
+  computed,
+  listed-exact matched-pairs (List·Memᴰ·head refl),
+  listed-exact turned-twice (List·Memᴰ·tail (List·Memᴰ·head refl)),
+  listed-exact turned-order (List·Memᴰ·tail (List·Memᴰ·tail (List·Memᴰ·head refl))),
+  listed-exact nothing-else (List·Memᴰ·tail (List·Memᴰ·tail (List·Memᴰ·tail (List·Memᴰ·head refl)))),
+  listed-exact only-itself (List·Memᴰ·tail (List·Memᴰ·tail (List·Memᴰ·tail (List·Memᴰ·tail (List·Memᴰ·head refl))))),
+)

@@ -6,7 +6,7 @@ use mathlib.Core.List.{List, [], _∷_, _++_}
 use Prim.Native.Nat.{ℕ}
 use lib.Dec.{ltb}
 use Rattle.graph.specs.declared.item.Item.the-variants.{Forward, Reversed}
-use Rattle.graph.specs.Grammar.{String, Rule, Grammar, _∈_}
+use Rattle.graph.specs.Grammar.{String, Rule, Grammar}
 use Rattle.graph.specs.Graph.{Triple, triple, in-set, set-of, Holds, below}
 use Rattle.graph.specs.Reachability.{Defined}
 use Rattle.graph.specs.Saturation.{saturated}
@@ -106,4 +106,6 @@ Case-exact c = (a u v : ℕ) → Holds (set-of (expected c)) a u v ↔ Defined (
 
 -- All cases in one computation, and what it tells: in each of them, exactly the expected triples are defined.
 abbrev pub Worked-cases : Type 0
-Worked-cases = (every case-holds cases ≡ true) × ((c : Case) → c ∈ cases → Case-exact c)
+Worked-cases =
+    (every case-holds cases ≡ true) ×
+    Case-exact matched-pairs × Case-exact turned-twice × Case-exact turned-order × Case-exact nothing-else × Case-exact only-itself
