@@ -3,17 +3,18 @@
 use mathlib.Core.Path.{_≡_, refl, sym, ap, subst}
 use mathlib.Core.Logic.{_⊎_, inl, inr}
 use mathlib.Core.Bool.{Bool, true, false, not, _&&_}
-use mathlib.Core.List.{List, [], _∷_, List·Memᴰ, List·Memᴰ.List·Memᴰ·head, List·Memᴰ.List·Memᴰ·tail, List·Memᴰ·not-nil, Memᴰ·append-left, Memᴰ·append-right}
+use mathlib.Core.List.{List, [], _∷_, List·Memᴰ.List·Memᴰ·head, List·Memᴰ.List·Memᴰ·tail, List·Memᴰ·not-nil, Memᴰ·append-left, Memᴰ·append-right}
 use Prim.Native.Nat.{ℕ, zero, suc, _+_, _<_}
 use native.Mathlib.Omega.{arith}
 use lib.Dec.{eqb}
 use lib.ListN.{length}
 use Rattle.std.proofs.shelf.Tests.{false≢true, eqb-true, eq-eqb, and-parts, and-from, or-cases, or-left, or-right, cases-bool, cases-eq, not-from-false}
+use Rattle.graph.specs.Grammar.{_∈_}
 use Rattle.graph.specs.Graph.{Triple, triple, is, Triples, in-set, set-of, Relation, Holds}
 use Rattle.graph.specs.Saturation.{keep, inside, outside, to-all, from-all, all-triples}
 
 abbrev pub Listed : List Triple → Relation
-Listed ts a u v = List·Memᴰ (triple a u v) ts
+Listed ts a u v = triple a u v ∈ ts
 
 -- the test of one triple
 is-same : (t : Triple) (a u v : ℕ) → is t a u v ≡ true → triple a u v ≡ t
@@ -45,15 +46,15 @@ listed-set (t ∷ ts) a u v (List·Memᴰ·head e) =
 listed-set (t ∷ ts) a u v (List·Memᴰ·tail i) = or-right (is t a u v) (set-of ts a u v) (listed-set ts a u v i)
 
 -- parting a list
-keep-here : (b : Bool) (x t : Triple) (ts : List Triple) → b ≡ true → x ≡ t → List·Memᴰ x (keep b t ts)
+keep-here : (b : Bool) (x t : Triple) (ts : List Triple) → b ≡ true → x ≡ t → x ∈ keep b t ts
 keep-here true x t ts h e = List·Memᴰ·head e
 keep-here false x t ts h e = absurd (false≢true h)
 
-keep-later : (b : Bool) (x t : Triple) (ts : List Triple) → List·Memᴰ x ts → List·Memᴰ x (keep b t ts)
+keep-later : (b : Bool) (x t : Triple) (ts : List Triple) → x ∈ ts → x ∈ keep b t ts
 keep-later true x t ts i = List·Memᴰ·tail i
 keep-later false x t ts i = i
 
-keep-cases : (b : Bool) (x t : Triple) (ts : List Triple) → List·Memᴰ x (keep b t ts) → ((b ≡ true) × (x ≡ t)) ⊎ List·Memᴰ x ts
+keep-cases : (b : Bool) (x t : Triple) (ts : List Triple) → x ∈ keep b t ts → ((b ≡ true) × (x ≡ t)) ⊎ x ∈ ts
 keep-cases true x t ts (List·Memᴰ·head e) = inl (refl, e)
 keep-cases true x t ts (List·Memᴰ·tail i) = inr i
 keep-cases false x t ts i = inr i

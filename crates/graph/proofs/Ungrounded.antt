@@ -3,13 +3,13 @@
 -- Assumes nothing.
 use mathlib.Core.Path.{_≡_, refl, sym, ap, subst, _∙_}
 use mathlib.Core.Bool.{true}
-use mathlib.Core.List.{[], _∷_, List·Memᴰ.List·Memᴰ·head, List·Memᴰ.List·Memᴰ·tail}
+use mathlib.Core.List.{List, [], _∷_, List·Memᴰ.List·Memᴰ·head, List·Memᴰ.List·Memᴰ·tail}
 use Prim.Native.Nat.{ℕ}
 use native.Mathlib.Omega.{arith}
 use Rattle.std.proofs.shelf.Tests.{false≢true, ltb-true}
 use Rattle.graph.specs.declared.item.Item.the-variants.{Forward}
 use Rattle.graph.specs.Grammar.{Rule, Grammar, Becomes.stays, Becomes.replaced}
-use Rattle.graph.specs.Graph.{triple, Triples, set-of, Holds, Within, below, Spells}
+use Rattle.graph.specs.Graph.{Triple, triple, Triples, set-of, Holds, Within, below, Spells}
 use Rattle.graph.specs.Reachability.{Defined, None-due}
 use Rattle.graph.specs.Laws.{Ground-needed}
 use Rattle.graph.proofs.Listed.{Listed, set-listed, listed-set}
@@ -26,20 +26,23 @@ R = pair ∷ empty ∷ []
 abbrev E : Triples
 E = set-of (triple 0 1 0 ∷ [])
 
+abbrev held : List Triple
+held = triple 2 0 0 ∷ triple 0 1 0 ∷ []
+
 abbrev H : Triples
-H = set-of (triple 2 0 0 ∷ triple 0 1 0 ∷ [])
+H = set-of held
 
 within : Within E H
 within a u v e =
-    listed-set (triple 2 0 0 ∷ triple 0 1 0 ∷ []) a u v (List·Memᴰ·tail (set-listed (triple 0 1 0 ∷ []) a u v e))
+    listed-set held a u v (List·Memᴰ·tail (set-listed (triple 0 1 0 ∷ []) a u v e))
 
 -- what H holds of labels 2 and 0
-two-listed : (u v : ℕ) → Listed (triple 2 0 0 ∷ triple 0 1 0 ∷ []) 2 u v → v ≡ 0
+two-listed : (u v : ℕ) → Listed held 2 u v → v ≡ 0
 two-listed u v (List·Memᴰ·head e) = ap (λ t. t .to) e
 two-listed u v (List·Memᴰ·tail (List·Memᴰ·head e)) = absurd (omega (arith, ap (λ t. t .label) e))
 two-listed u v (List·Memᴰ·tail (List·Memᴰ·tail i)) = elim i [ ]
 
-zero-listed : (u v : ℕ) → Listed (triple 2 0 0 ∷ triple 0 1 0 ∷ []) 0 u v → u ≡ 1
+zero-listed : (u v : ℕ) → Listed held 0 u v → u ≡ 1
 zero-listed u v (List·Memᴰ·head e) = absurd (omega (arith, ap (λ t. t .label) e))
 zero-listed u v (List·Memᴰ·tail (List·Memᴰ·head e)) = ap (λ t. t .from) e
 zero-listed u v (List·Memᴰ·tail (List·Memᴰ·tail i)) = elim i [ ]
@@ -62,9 +65,9 @@ settled : None-due (below 1) R H
 settled X u v (e, (p, List·Memᴰ·head same, head, h)) =
     pair-leads-nowhere u v (subst (λ q. Spells (below 1) (Holds H) u v (q .items)) same h)
 settled X u v (e, (p, List·Memᴰ·tail (List·Memᴰ·head same), head, h)) =
-    let held = empty-held u v (subst (λ q. Spells (below 1) (Holds H) u v (q .items)) same h) in
+    let two = empty-held u v (subst (λ q. Spells (below 1) (Holds H) u v (q .items)) same h) in
     let label : 2 ≡ X = sym (ap (λ q. q .head) same) ∙ head in
-    false≢true (sym e ∙ subst (λ a. H a u v ≡ true) label held)
+    false≢true (sym e ∙ subst (λ a. H a u v ≡ true) label two)
 settled X u v (e, (p, List·Memᴰ·tail (List·Memᴰ·tail i), head, h)) = elim i [ ]
 
 defined : Defined (below 1) R E 1 1 0

@@ -25,6 +25,7 @@ x ∈ xs = List·Memᴰ x xs
 abbrev pub Extends : Grammar → Grammar → Type 0
 Extends R S = (p : Rule) → p ∈ R → p ∈ S
 
+-- every rule has a head below l
 abbrev pub Heads-below : ℕ → Grammar → Type 0
 Heads-below l R = (p : Rule) → p ∈ R → p .head < l
 

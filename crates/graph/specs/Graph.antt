@@ -17,6 +17,7 @@ pub record Triple : Type 0 where
 abbrev pub triple : ℕ → ℕ → ℕ → Triple
 triple a u v = record { label = a; from = u; to = v }
 
+-- the triple is the one of this label, from this node, to that
 abbrev pub is : Triple → ℕ → ℕ → ℕ → Bool
 is t a u v = eqb (t .label) a && (eqb (t .from) u && eqb (t .to) v)
 
@@ -50,6 +51,7 @@ Within A B = Implies (Holds A) (Holds B)
 abbrev pub Nodes : Type 0
 Nodes = ℕ → Bool
 
+-- all nodes below n
 abbrev pub below : ℕ → Nodes
 below n u = ltb u n
 
@@ -57,6 +59,7 @@ below n u = ltb u n
 abbrev pub Nodes-within : Nodes → Nodes → Type 0
 Nodes-within A B = (u : ℕ) → A u ≡ true → B u ≡ true
 
+-- both nodes are places
 abbrev pub Between : Nodes → ℕ → ℕ → Type 0
 Between places u v = (places u ≡ true) × (places v ≡ true)
 

@@ -1,4 +1,4 @@
--- The laws of what is defined. Assumes nothing.
+-- The laws of what is defined. Most of them ask that edges go from places to places; `Ground-needed` says that this is no idle condition. Assumes nothing.
 use mathlib.Core.Logic.{_↔_}
 use Prim.Native.Nat.{ℕ}
 use Rattle.graph.specs.Graph.{Triples, Holds, Implies, Within, Nodes, Nodes-within, Grounded, In-range}
@@ -10,7 +10,7 @@ abbrev pub Edges-defined : Type 0
 Edges-defined =
     (places : Nodes) (R : Grammar) (E : Triples) → Grounded places (Holds E) → Implies (Holds E) (Defined places R E)
 
--- More places, more rules and more edges define no less.
+-- More places, more rules and more edges define no less, wherever the edges go.
 abbrev pub Defined-grows : Type 0
 Defined-grows =
     (places places′ : Nodes) (R R′ : Grammar) (E E′ : Triples) →
@@ -22,7 +22,7 @@ Defined-least =
     (places : Nodes) (R : Grammar) (E H : Triples) →
     Grounded places (Holds E) → Within E H → None-due places R H → Implies (Defined places R E) (Holds H)
 
--- That is wrong without the condition that edges go from places to places.
+-- The law of the least is wrong without its condition that edges go from places to places.
 abbrev pub Ground-needed : Type 0
 Ground-needed =
     ((places : Nodes) (R : Grammar) (E H : Triples) → Within E H → None-due places R H → Implies (Defined places R E) (Holds H)) → ⊥

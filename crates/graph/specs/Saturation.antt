@@ -11,10 +11,12 @@ use Rattle.graph.specs.Grammar.{String, Grammar, Heads-below}
 use Rattle.graph.specs.Graph.{Triple, triple, Triples, in-set, set-of, Holds, Implies, Nodes, below, Nodes-within, In-range}
 use Rattle.graph.specs.Reachability.{Defined}
 
+-- some number below n passes the test
 abbrev pub some-below : ℕ → (ℕ → Bool) → Bool
 some-below zero test = false
 some-below (suc n) test = test n || some-below n test
 
+-- a step by an item over H
 abbrev pub takes? : Triples → Item → ℕ → ℕ → Bool
 takes? H (Forward Y) w w′ = H Y w w′
 takes? H (Reversed Y) w w′ = H Y w′ w
@@ -56,15 +58,17 @@ saturate n places R (suc rounds) held missing =
     let found = inside led missing in
     unless-none found held (saturate n places R rounds (found ++ held) (outside led missing))
 
--- all triples with a label below l and nodes below n
+-- the triples of label a from u, to every node below a number
 abbrev pub to-all : ℕ → ℕ → ℕ → List Triple
 to-all a u zero = []
 to-all a u (suc v) = triple a u v ∷ to-all a u v
 
+-- those of label a from every node below a number, to every node below n
 abbrev pub from-all : ℕ → ℕ → ℕ → List Triple
 from-all a zero n = []
 from-all a (suc u) n = to-all a u n ++ from-all a u n
 
+-- all triples with a label below l and nodes below n
 abbrev pub all-triples : ℕ → ℕ → List Triple
 all-triples zero n = []
 all-triples (suc l) n = from-all l n n ++ all-triples l n

@@ -10,32 +10,32 @@ pub fn bytes_match()
     ensures { λ _. ⌜ Bytes-match ⌝ }
 {}
 
-/// An edge is defined.
+/// Where edges go from places to places, an edge is defined.
 pub fn edges_defined()
     ensures { λ _. ⌜ Edges-defined ⌝ }
 {}
 
-/// More places, more rules and more edges define no less.
+/// More places, more rules and more edges define no less, wherever the edges go.
 pub fn defined_grows()
     ensures { λ _. ⌜ Defined-grows ⌝ }
 {}
 
-/// Every set that contains the edges and leaves none due contains all that is defined.
+/// Where edges go from places to places, every set that contains them and leaves none due contains all that is defined.
 pub fn defined_least()
     ensures { λ _. ⌜ Defined-least ⌝ }
 {}
 
-/// That is wrong without the condition that edges go from places to places.
+/// Where edges may go anywhere, a set can contain them, leave none due, and still lack what is defined.
 pub fn ground_needed()
     ensures { λ _. ⌜ Ground-needed ⌝ }
 {}
 
-/// What is due over a set of defined triples is defined.
+/// Where edges go from places to places, what is due over a set of defined triples is defined.
 pub fn due_defined()
     ensures { λ _. ⌜ Due-defined ⌝ }
 {}
 
-/// A set that contains the edges, holds only defined triples and leaves none due holds exactly the defined ones.
+/// Where edges go from places to places, a set that contains them, holds only defined triples and leaves none due holds exactly the defined ones.
 pub fn solution_exact()
     ensures { λ _. ⌜ Solution-exact ⌝ }
 {}
@@ -45,7 +45,7 @@ pub fn defined_in_range()
     ensures { λ _. ⌜ Defined-in-range ⌝ }
 {}
 
-/// The saturation holds exactly the defined triples.
+/// Where the places are below n, and the edges and the heads of the rules in range, the saturation holds exactly the defined triples.
 pub fn saturation_exact()
     ensures { λ _. ⌜ Saturation-exact ⌝ }
 {}
