@@ -1,5 +1,7 @@
 //! What every other crate builds on: the refusals and their numbers, the items of rules, and the laws of what rules define over a graph.
 
+#![tactic(auto)]
+
 mod item;
 mod laws;
 mod refusal;

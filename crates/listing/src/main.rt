@@ -1,5 +1,7 @@
 //! Reads a record file from standard input and writes its answer to standard output.
 
+#![tactic(auto)]
+
 use report::{LIMIT, reply};
 use std::io;
 use std::io::{Read, Write};

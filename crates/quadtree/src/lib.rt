@@ -1,5 +1,7 @@
 //! A store of triples as quadtrees, one for each label, whose blocks come from a lent pool.
 
+#![tactic(auto)]
+
 mod block;
 mod descent;
 mod heights;

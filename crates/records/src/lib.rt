@@ -1,5 +1,7 @@
 //! Record files: a reader that copies nothing, a writer, and the copy of a whole file.
 
+#![tactic(auto)]
+
 mod copy;
 mod file;
 mod front;

@@ -1,7 +1,7 @@
 use super::*;
 use graph::Refusal;
+use std::alloc::AllocError;
 use std::process::Abort;
-use std::test::Fail;
 
 /// Three labels, four nodes, two rules and four edges.
 const SAMPLE: &[u8; 46] =
@@ -13,107 +13,111 @@ const CUT: [usize; 46] = [
     23, 23, 23, 30, 30, 30, 30, 30, 30, 30, 37, 37, 37, 37, 37, 37, 37, 44, 44,
 ];
 
-fn stops(rt: &impl Abort, bytes: &[u8], place: usize) -> Result<(), Fail> {
+/// Checks that bytes are no file, and where they stop being one.
+fn stops(rt: &impl Abort, bytes: &[u8], place: usize, what: &str) {
     match File::read(bytes) {
-        Ok(_) => Err(Fail::new("accepted")),
+        Ok(_) => panic!(rt; "{what}: accepted"),
         Err(misshapen) => {
-            assert_eq!(rt; misshapen.place, place);
-            Ok(())
+            assert_eq!(rt; misshapen.place, place, "{what}");
         },
     }
 }
 
-fn accepted(bytes: &[u8]) -> Result<(), Fail> {
-    match File::read(bytes) {
-        Ok(_) => Ok(()),
-        Err(_) => Err(Fail::new("refused")),
-    }
+/// Checks that bytes are a file.
+fn accepted(rt: &impl Abort, bytes: &[u8], what: &str) {
+    assert!(rt; File::read(bytes).is_ok(), "{what}: refused");
 }
 
 #[test]
-fn accepts_files() -> Result<(), Fail> {
-    accepted(SAMPLE).note("the sample")?;
-    accepted(b"GR\0\0\0EN").note("no rules and no edges")?;
-    accepted(b"GR\xff\xff\xffED\xff\xff\xff\xff\xffRL\xff\x02\x40\xffEN").note("any numbers")
+fn accepts_files(rt: HostRuntime) {
+    accepted(&rt, SAMPLE, "the sample");
+    accepted(&rt, b"GR\0\0\0EN", "no rules and no edges");
+    accepted(
+        &rt,
+        b"GR\xff\xff\xffED\xff\xff\xff\xff\xffRL\xff\x02\x40\xffEN",
+        "any numbers",
+    );
 }
 
 #[test]
-fn says_where_each_beginning_stops(rt: HostRuntime) -> Result<(), Fail> {
+fn says_where_each_beginning_stops(rt: HostRuntime) {
     let file: &[u8] = SAMPLE;
     for length in 0..46 {
         assert!(rt; length <= file.len());
-        stops(&rt, &file[0..length], CUT[length])?;
+        stops(
+            &rt,
+            &file[0..length],
+            CUT[length],
+            "a beginning of the sample",
+        );
     }
-    Ok(())
 }
 
 #[test]
-fn says_where_other_bytes_stop(rt: HostRuntime) -> Result<(), Fail> {
-    stops(&rt, b"EN", 0).note("the end first")?;
-    stops(&rt, b"RL\0\0GR\0\0\0EN", 0).note("a rule first")?;
-    stops(&rt, b"GR\0\0\0GR\0\0\0EN", 5).note("two headers")?;
-    stops(&rt, b"GR\0\0\0ENED\0\0\0\0\0EN", 7).note("an edge after the end")?;
-    stops(&rt, b"GR\0\0\0ENEN", 7).note("two ends")?;
-    stops(&rt, b"GR\0\0\0EN\0", 7).note("a stray byte")?;
-    stops(&rt, b"GR\0\0\0PR\0\0\0\0EN", 5).note("a pair")?;
-    stops(&rt, b"GR\0\0\0LS\0\0\0\0\0EN", 5).note("a listing")?;
-    stops(&rt, b"GR\0\0\0NO\x03\0\0\0\0EN", 5).note("a refusal")?;
-    stops(&rt, b"gr\0\0\0EN", 0).note("a mark in small letters")?;
-    stops(&rt, b"GR\0\0\0RL\0\x04\0EN", 5).note("items past the end")?;
-    stops(&rt, b"GR\0\0\0RL\0\x02\0EN", 11).note("items that take half of the end's mark")?;
+fn says_where_other_bytes_stop(rt: HostRuntime) {
+    stops(&rt, b"EN", 0, "the end first");
+    stops(&rt, b"RL\0\0GR\0\0\0EN", 0, "a rule first");
+    stops(&rt, b"GR\0\0\0GR\0\0\0EN", 5, "two headers");
+    stops(&rt, b"GR\0\0\0ENED\0\0\0\0\0EN", 7, "an edge after the end");
+    stops(&rt, b"GR\0\0\0ENEN", 7, "two ends");
+    stops(&rt, b"GR\0\0\0EN\0", 7, "a stray byte");
+    stops(&rt, b"GR\0\0\0PR\0\0\0\0EN", 5, "a pair");
+    stops(&rt, b"GR\0\0\0LS\0\0\0\0\0EN", 5, "a listing");
+    stops(&rt, b"GR\0\0\0NO\x03\0\0\0\0EN", 5, "a refusal");
+    stops(&rt, b"gr\0\0\0EN", 0, "a mark in small letters");
+    stops(&rt, b"GR\0\0\0RL\0\x04\0EN", 5, "items past the end");
+    stops(
+        &rt,
+        b"GR\0\0\0RL\0\x02\0EN",
+        11,
+        "items that take half of the end's mark",
+    );
     let mut longer = [0; 47];
     longer[0..46].copy_from_slice(SAMPLE);
-    stops(&rt, &longer, 46).note("a byte after the sample")
+    stops(&rt, &longer, 46, "a byte after the sample");
 }
 
 /// Checks that the next token of a pass is `record`, at `place`.
-fn gives(
-    rt: &impl Abort,
-    records: &mut Records<'_>,
-    place: usize,
-    record: Record<'_>,
-) -> Result<(), Fail> {
+fn gives(rt: &impl Abort, records: &mut Records<'_>, place: usize, record: Record<'_>) {
     let Some(token) = records.next() else {
-        return Err(Fail::new("no more records"));
+        panic!(rt; "no more records");
     };
     assert_eq!(rt; token.place, place);
     assert_eq!(rt; token.record, record);
-    Ok(())
 }
 
 #[test]
-fn gives_the_records_in_order(rt: HostRuntime) -> Result<(), Fail> {
+fn gives_the_records_in_order(rt: HostRuntime) {
     let Ok(file) = File::read(SAMPLE) else {
-        return Err(Fail::new("refused"));
+        panic!(rt; "refused");
     };
     let mut records = file.records();
     let (labels, nodes) = (3, 4);
-    gives(&rt, &mut records, 0, Record::Header { labels, nodes })?;
+    gives(&rt, &mut records, 0, Record::Header { labels, nodes });
     let items: &[u8] = b"\0\x02\x01";
-    gives(&rt, &mut records, 5, Record::Rule { head: 2, items })?;
+    gives(&rt, &mut records, 5, Record::Rule { head: 2, items });
     let items: &[u8] = b"";
-    gives(&rt, &mut records, 12, Record::Rule { head: 2, items })?;
+    gives(&rt, &mut records, 12, Record::Rule { head: 2, items });
     let mut place = 16;
     for (label, from, to) in [(0, 0, 1), (0, 1, 2), (1, 2, 3), (1, 3, 0)] {
-        gives(&rt, &mut records, place, Record::Edge { label, from, to })?;
+        gives(&rt, &mut records, place, Record::Edge { label, from, to });
         place = place.saturating_add(7);
     }
-    gives(&rt, &mut records, 44, Record::End)?;
+    gives(&rt, &mut records, 44, Record::End);
     assert!(rt; records.next().is_none());
-    Ok(())
 }
 
 #[test]
-fn reads_rules_of_any_length(rt: HostRuntime) -> Result<(), Fail> {
+fn reads_rules_of_any_length(rt: HostRuntime) -> Result<(), AllocError> {
     for count in [0u8, 8, 9, 255] {
         let mut bytes = Vec::new(rt.alloc());
         bytes.extend_from_slice(&[b'G', b'R', 1, 0, 1, b'R', b'L', 0, count])?;
         for _ in 0..count {
             bytes.push(b'x')?;
         }
-        stops(&rt, &bytes, bytes.len())?;
+        stops(&rt, &bytes, bytes.len(), "no end");
         bytes.extend_from_slice(b"EN")?;
-        accepted(&bytes)?;
+        accepted(&rt, &bytes, "items of any number");
     }
     Ok(())
 }
@@ -125,7 +129,7 @@ fn written(rt: &impl Abort, record: Record<'_>, expected: &[u8], out: &mut [u8])
     assert!(rt; 0 < size && size < 300 && size + 1 < out.len());
     assert_eq!(rt; record.write(&mut out[1..size]), Err(Refusal::Short));
     assert!(rt; size + 1 < out.len());
-    assert_eq!(rt; &out[1..3], b"..");
+    assert_eq!(rt; &out[1..3], b"..".as_slice());
     assert_eq!(rt; record.write(&mut out[1..size + 1]), Ok(size));
     assert!(rt; size + 1 < out.len());
     assert_eq!(rt; &out[1..size + 1], expected);

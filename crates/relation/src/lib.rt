@@ -1,5 +1,7 @@
 //! What a store of triples is: one meaning, a trait whose calls are promised over it, and a routine that drives any store.
 
+#![tactic(auto)]
+
 mod answer;
 mod example;
 mod fit;

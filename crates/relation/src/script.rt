@@ -33,7 +33,7 @@ struct Seen {
 
 /// Asks a store for all that it says of a triple and of itself.
 fn look<S: Store>(store: &S, label: u8, from: u16, to: u16) -> Seen
-    ensures { result ≡ seen (meaning store.now) label from to }
+    ensures { result ≡ seen (S.meaning store.now) label from to }
 {
     Seen {
         has: store.has(label, from, to),
@@ -69,8 +69,8 @@ fn consistent(before: &Seen, answer: Result<Grant, StoreFault>, after: &Seen) ->
 
 /// Makes one put, and says whether its answer is the expected one and goes with all that the store says before and after. The second is proved of every store, so it is not promised here.
 fn agrees<S: Store>(store: &mut S, put: &Put) -> bool
-    ensures answer { result ≡ as_expected (meaning store.old) put.now }
-    ensures after { meaning store.new ≡ after_one (meaning store.old) put.now }
+    ensures answer { result ≡ as_expected (S.meaning store.old) put.now }
+    ensures after { S.meaning store.new ≡ after_one (S.meaning store.old) put.now }
 {
     let Put {
         label,
@@ -86,8 +86,8 @@ fn agrees<S: Store>(store: &mut S, put: &Put) -> bool
 
 /// Gives a store the puts of a script in order, and makes all its other calls before and after each. Stops at the first put whose answer is not the expected one, and answers its index, or `None`.
 pub fn drive<S: Store>(store: &mut S, script: &[Put]) -> Option<usize>
-    ensures answer { result ≡ first_wrong (meaning store.old) script.now }
-    ensures after { meaning store.new ≡ driven (meaning store.old) script.now }
+    ensures answer { result ≡ first_wrong (S.meaning store.old) script.now }
+    ensures after { S.meaning store.new ≡ driven (S.meaning store.old) script.now }
 {
     for (index, put) in script.iter().enumerate() {
         if !agrees(store, put) {

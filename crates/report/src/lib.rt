@@ -1,5 +1,7 @@
 //! The whole program as a function: the bytes of an input to the bytes of its answer.
 
+#![tactic(auto)]
+
 ghost use Rattle.report.specs.Reply.{Limited, Replies};
 
 use graph::Refusal;

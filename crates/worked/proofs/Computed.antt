@@ -10,9 +10,10 @@ all_computed = refl
 
 pub worked_cases : WorkedCases
 worked_cases =
+    let defined = graphs.worked_cases in
     record {
       computed = all_computed;
-      defined = (graphs.worked_cases).1;
+      defined = (defined.1, defined.2, defined.3, defined.4, defined.5);
       pairs_weigh = (refl, refl, refl, refl);
       cells_weigh = (refl, refl, refl, refl);
       high = (refl, refl, refl, refl);

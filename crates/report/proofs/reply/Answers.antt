@@ -3,8 +3,8 @@ use Rattle.report.specs.Reply.{refusal_record}
 use Rattle.report.proofs.Ends.{copied, replied, refused}
 use Rattle.report.proofs.reply.Goals as goal
 
-pub overflow-cast-refused : goal.overflow-cast-refused
-overflow-cast-refused c = omega (arith, (refused c.in-Err.fault c.in-Err.ensures).small)
+pub overflow_cast-refused : goal.overflow_cast-refused
+overflow_cast-refused c = omega (arith, (refused c.in-Err.fault c.in-Err.ensures).small)
 
 pub returns-in-Ok : goal.returns-in-Ok
 returns-in-Ok c = replied c.in-Ok.size (copied c.in-Ok.size c.in-Ok.ensures)

@@ -13,6 +13,6 @@ returns-then-nodes-gt1024 c =
 pub returns : goal.returns
 returns c =
     record {
-      answer = ap Some c.tree-height.ensures ∙ sym (cond-true (leb c.args.nodes 1024) _ _ (le-leb c.args.nodes 1024 (omega arith)));
+      answer = ap Some c.tree_height.ensures ∙ sym (cond-true (leb c.args.nodes 1024) _ _ (le-leb c.args.nodes 1024 (omega arith)));
       least = heights_least;
     }

@@ -5,10 +5,19 @@ use Rattle.quadtree.specs.Pools.{links}
 use Rattle.quadtree.proofs.Standing.{sound_none, holding_none}
 use Rattle.quadtree.proofs.quadtree.Quadtree.empty.Goals as goal
 
-pub invariant-of-result : goal.invariant-of-result
-invariant-of-result c =
-    let s = sound_none (links c.args.blocks.now) c.no-roots.result c.args.labels c.args.nodes c.tree-height.result c.no-roots.ensures in
-    ((omega arith, omega arith), (c.tree-height.ensures, ((omega arith, omega arith, omega arith), (s.tree, (s.full, (s.inside, (s.weighed, (s.sized, tt))))))))
+pub invariant_of-result : goal.invariant_of-result
+invariant_of-result c =
+    let s = sound_none (links c.args.blocks.now) c.no_roots.result c.args.labels c.args.nodes c.tree_height.result c.no_roots.ensures in
+    record {
+      few = (omega arith, omega arith);
+      tall = c.tree_height.ensures;
+      room = (omega arith, omega arith, omega arith);
+      tree = s.tree;
+      full = s.full;
+      inside = s.inside;
+      weighed = s.weighed;
+      sized = s.sized;
+    }
 
 pub returns : goal.returns
 returns c =
@@ -17,5 +26,5 @@ returns c =
       untouched = refl;
       empty =
           ap (with_held (empty_quadtree c.args.labels c.args.nodes c.args.capacity))
-          (holding_none (links c.args.blocks.now) c.no-roots.result c.args.labels c.args.nodes c.tree-height.result c.no-roots.ensures);
+          (holding_none (links c.args.blocks.now) c.no_roots.result c.args.labels c.args.nodes c.tree_height.result c.no_roots.ensures);
     }

@@ -6,7 +6,7 @@ use Rattle.quadtree.proofs.quadtree.store.QuadtreeStore.has.Goals as goal
 pub has-requires : goal.has-requires
 has-requires c =
     let q = c.args.self.now in
-    let r = in_told q c.args.label c.args.from c.args.to c.if-in-range.ensures in
+    let r = in_told q c.args.label c.args.from c.args.to c.if-in_range.ensures in
     record {
       label = omega (arith, r.label, q.few.0);
       low = low q;

@@ -28,17 +28,26 @@ add-requires c =
       tree = tree_among q c.args.label q.pool.spent r.label (omega arith);
     }
 
-pub overflow-add-self : goal.overflow-add-self
-overflow-add-self c =
+pub overflow_add-self : goal.overflow_add-self
+overflow_add-self c =
     let q = c.args.self.now in
     omega (arith, q.sized, size_small q.labels q.nodes (quad_meaning q).held q.few.0 q.few.1)
 
-pub invariant-of-self : goal.invariant-of-self
-invariant-of-self c =
+pub invariant_of-self : goal.invariant_of-self
+invariant_of-self c =
     let q = c.args.self.now in
     let i = inserted q c.args.label c.args.from c.args.to c.if-not-fits.ensures c.if-has.ensures c.add.new.self c.add.ensures.grown c.add.ensures.others in
     let s = i.sound in
-    (q.few, (q.tall, ((i.room, omega (arith, q.room.1, c.add.ensures.long), q.room.2), (s.tree, (s.full, (s.inside, (s.weighed, (s.sized, tt))))))))
+    record {
+      few = q.few;
+      tall = q.tall;
+      room = (i.room, omega (arith, q.room.1, c.add.ensures.long), q.room.2);
+      tree = s.tree;
+      full = s.full;
+      inside = s.inside;
+      weighed = s.weighed;
+      sized = s.sized;
+    }
 
 pub returns : goal.returns
 returns c =
