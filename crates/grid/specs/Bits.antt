@@ -1,5 +1,5 @@
 -- A row of 64-bit words as bits, counted from the lowest bit of the first word, and the triples whose bits are set. Assumes nothing.
-use Rattle.std.specs.Prelude.{ℕ, ◌+◌, ◌*◌, ◌/◌, ◌%◌, ◌^◌, Bool, cond, ◌&&◌, List, set, ◌==◌, bit_or, slice_index, slice_set}
+use Rattle.std.specs.Prelude.{ℕ, ◌+◌, ◌*◌, ◌/◌, ◌%◌, ◌^◌, Bool, cond, ◌&&◌, List, ◌==◌, bit_or, slice_index, slice_set}
 use Rattle.graph.specs.Graph.{Triples}
 use Rattle.relation.specs.Sets.{in_range?}
 
