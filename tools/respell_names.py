@@ -3,9 +3,11 @@
 
 usage: tools/respell_names.py [--names]
 
-Run once, at the top of the repository, after the toolchain's own port.py. A declared name with a dash is turned wherever it
-stands as a whole word: in specs/, proofs/, the clauses of src/, must-fail/*.edit, and the code spans of pages. Names of src/,
-of the toolchain and of its goals stay. --names prints the old and the new names of each crate, and writes nothing.
+Was run once, at the top of the repository, after the toolchain's own port.py, and has nothing left to do. A declared name
+with a dash is turned wherever it stands as a whole word: in specs/, proofs/, src/, must-fail/*.edit, and the code spans of
+pages. It goes by spelling alone, for the whole repository: names of the toolchain and of its goals are not declared here and
+stay, but for one that is spelled like a declared name. --names prints the old and the new names of each crate, and writes
+nothing.
 """
 
 import glob
@@ -19,7 +21,7 @@ SIGNATURE = re.compile(rf"\s*(?:abbrev |unfoldable )?(?:pub )?((?:[^{SIGNS}]+ )*
 TYPE = re.compile(rf"\s*(?:pub )?(?:record|data) ([^{SIGNS}]+)")
 # names that the toolchain makes for what is left to prove
 GOAL = re.compile(
-    r"(returns|invariant|loop|overflow|bounds|slice-bounds|decreases|nonzero)-|.*-(requires|init|preserved|smaller)(-\d+)?$"
+    r"(returns|invariant|invariant_of|loop|overflow(_\w+)?|bounds|slice[-_]bounds|decreases|nonzero)-|.*-(requires|init|preserved|smaller)(-\d+)?$"
 )
 SPAN = re.compile(r"`[^`\n]+`")
 
