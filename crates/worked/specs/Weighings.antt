@@ -1,5 +1,5 @@
 -- Sets of triples over three labels and four nodes with what they weigh in a quadtree, and heights. Assumes nothing.
-use Rattle.std.specs.Prelude.{◌≡◌, Bool, List, [], ◌∷◌, ℕ, ◌-◌, eqb, leb}
+use Rattle.std.specs.Prelude.{◌≡◌, Bool, List, [], ◌∷◌, ℕ, ◌-◌, ◌==◌, nat_le}
 use Rattle.graph.specs.Graph.{Triple, triple, set_of}
 use Rattle.graph.specs.Saturation.{inside, from_all}
 use Rattle.relation.specs.Sets.{size_of}
@@ -18,7 +18,7 @@ weighs ts w = record { triples = ts; weight = w }
 
 -- those of the matched pairs that have label a
 abbrev pub matched : ℕ → List Triple
-matched a = inside (λ b _ _. eqb b a) (expected matched_pairs)
+matched a = inside (λ b _ _. b == a) (expected matched_pairs)
 
 -- a set of one label, which grows by one triple at a time; and all pairs of a label
 abbrev pub first_cell : List Triple
@@ -39,7 +39,7 @@ weighings =
     weighs first_cell 2 ∷ weighs far_apart 3 ∷ weighs three_cells 3 ∷ weighs all_pairs 5 ∷ []
 
 abbrev pub weighing_holds : Weighing → Bool
-weighing_holds w = eqb (quad_weight 3 4 (set_of w.triples)) w.weight
+weighing_holds w = quad_weight 3 4 (set_of w.triples) == w.weight
 
 -- the set weighs so much
 abbrev pub Weighs : Weighing → Type 0
@@ -47,7 +47,7 @@ Weighs w = quad_weight 3 4 (set_of w.triples) ≡ w.weight
 
 -- all that is defined in the case is light enough for a pool of so many blocks
 abbrev pub settles? : Case → ℕ → Bool
-settles? c blocks = leb (quad_weight c.labels c.nodes (set_of (expected c))) (capacity_of blocks)
+settles? c blocks = nat_le (quad_weight c.labels c.nodes (set_of (expected c))) (capacity_of blocks)
 
 -- how many triples are defined beside the edges
 abbrev pub additions : Case → ℕ
@@ -65,7 +65,7 @@ abbrev pub heights : List Height
 heights = over 1 1 ∷ over 2 1 ∷ over 3 2 ∷ over 1024 10 ∷ []
 
 abbrev pub height_holds : Height → Bool
-height_holds x = eqb (height_of x.nodes) x.height
+height_holds x = height_of x.nodes == x.height
 
 -- so many nodes have this height
 abbrev pub HasHeight : Height → Type 0

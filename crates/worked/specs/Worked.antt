@@ -1,12 +1,12 @@
 -- The worked cases of all definitions, as one computed test, and what each of them says. Assumes nothing.
-use Rattle.std.specs.Prelude.{◌≡◌, Bool, true, false, not, ◌&&◌, eqb}
+use Rattle.std.specs.Prelude.{◌≡◌, Bool, true, false, not, ◌&&◌, ◌==◌}
 use Rattle.graph.specs.Cases.{matched_pairs, turned_twice, turned_order, nothing_else, only_itself, cases, expected, every, case_holds, CaseExact}
 use Rattle.worked.specs.Weighings.{weighs, matched, first_cell, far_apart, three_cells, all_pairs, weighings, weighing_holds, Weighs, settles?, additions, over, heights, height_holds, HasHeight}
 
 -- sets and heights come out as they should; and the matched pairs have five triples beside the edges, which ten blocks have room for and nine have not
 abbrev pub stores_hold : Bool
 stores_hold =
-    every weighing_holds weighings && (every height_holds heights && (eqb (additions matched_pairs) 5 && (settles? matched_pairs 10 && not (settles? matched_pairs 9))))
+    every weighing_holds weighings && (every height_holds heights && (additions matched_pairs == 5 && (settles? matched_pairs 10 && not (settles? matched_pairs 9))))
 
 -- every case of all
 abbrev pub all_hold : Bool
