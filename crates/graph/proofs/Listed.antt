@@ -4,7 +4,8 @@ use Rattle.std.proofs.Common.{◌≡◌, ℕ, zero, suc, ◌+◌, ◌<◌, Bool,
 use mathlib.Core.List.Memᴰ
 use Rattle.std.proofs.lemmas.Bool.{false≢true, eqb-true, eq-eqb, and_parts, and_from, or_cases, or_left, or_right, cases_Bool, cases_eq, not_from_false}
 use Rattle.graph.specs.Grammar.{◌∈◌}
-use Rattle.graph.specs.Graph.{Triple, triple, is, Triples, in_set, set_of, Relation, Holds}
+use Rattle.graph.specs.declared.triple.Triple.{Triple}
+use Rattle.graph.specs.Graph.{triple, is, Triples, in_set, set_of, Relation, Holds}
 use Rattle.graph.specs.Saturation.{keep, inside, outside, to_all, from_all, all_triples}
 
 abbrev pub Listed : List Triple → Relation

@@ -4,7 +4,8 @@ use Rattle.std.proofs.Common.{◌≡◌, ℕ, zero, suc, ◌≤◌, ◌⊎◌, L
 use mathlib.Core.List.Memᴰ
 use Rattle.std.proofs.lemmas.Bool.{false≢true, ltb-true}
 use Rattle.graph.specs.Grammar.{Grammar, HeadsBelow}
-use Rattle.graph.specs.Graph.{Triple, Triples, set_of, Holds, Implies, Within, Nodes, below, NodesWithin, Grounded, InRange}
+use Rattle.graph.specs.declared.triple.Triple.{Triple}
+use Rattle.graph.specs.Graph.{Triples, set_of, Holds, Implies, Within, Nodes, below, NodesWithin, Grounded, InRange}
 use Rattle.graph.specs.Reachability.{Defined, NoneDue, Solves}
 use Rattle.graph.specs.Saturation.{leads?, inside, outside, unless_none, saturate, all_triples, saturation, SaturationExact}
 use Rattle.graph.proofs.Definedness.{edges_defined, leads_in_range, defined_in_range, leads_defined, solution_exact}

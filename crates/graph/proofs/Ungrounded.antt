@@ -6,7 +6,8 @@ use mathlib.Core.List.Memᴰ
 use Rattle.std.proofs.lemmas.Bool.{false≢true, ltb-true}
 use Rattle.graph.specs.declared.item.Item.TheVariants.{Forward}
 use Rattle.graph.specs.Grammar.{Rule, Grammar, Becomes.stays, Becomes.replaced}
-use Rattle.graph.specs.Graph.{Triple, triple, Triples, set_of, Holds, Within, below, Spells}
+use Rattle.graph.specs.declared.triple.Triple.{Triple}
+use Rattle.graph.specs.Graph.{triple, Triples, set_of, Holds, Within, below, Spells}
 use Rattle.graph.specs.Reachability.{Defined, NoneDue}
 use Rattle.graph.specs.Laws.{GroundNeeded}
 use Rattle.graph.proofs.Listed.{Listed, set_listed, listed_set}

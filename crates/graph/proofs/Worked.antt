@@ -4,7 +4,8 @@ use Rattle.std.proofs.Common.{◌≡◌, ℕ, Bool, true, ◌&&◌, ltb, ◌↔�
 use mathlib.Core.List.Memᴰ
 use Rattle.std.proofs.lemmas.Bool.{ltb-true, and_parts}
 use Rattle.graph.specs.Grammar.{◌∈◌, HeadsBelow}
-use Rattle.graph.specs.Graph.{Triple, in_set, set_of, Holds, Implies, Within, below, InRange}
+use Rattle.graph.specs.declared.triple.Triple.{Triple}
+use Rattle.graph.specs.Graph.{in_set, set_of, Holds, Implies, Within, below, InRange}
 use Rattle.graph.specs.Reachability.{Defined}
 use Rattle.graph.specs.Cases.{Case, matched_pairs, turned_twice, turned_order, nothing_else, only_itself, cases, expected, every, edge_fits, head_fits, found, covers, case_holds, CaseExact, WorkedCases}
 use Rattle.graph.proofs.Listed.{set_listed}

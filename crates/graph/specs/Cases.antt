@@ -2,7 +2,9 @@
 use Rattle.std.specs.Prelude.{◌≡◌, ℕ, Bool, true, ◌&&◌, ◌↔◌, List, [], ◌∷◌, ◌++◌, nat_lt}
 use Rattle.graph.specs.declared.item.Item.TheVariants.{Forward, Reversed}
 use Rattle.graph.specs.Grammar.{String, Rule, Grammar}
-use Rattle.graph.specs.Graph.{Triple, triple, in_set, set_of, Holds, below}
+use Rattle.graph.specs.declared.triple.Triple.{Triple}
+use Rattle.graph.specs.Counts.{in_range?}
+use Rattle.graph.specs.Graph.{triple, at, in_set, set_of, Holds, below}
 use Rattle.graph.specs.Reachability.{Defined}
 use Rattle.graph.specs.Saturation.{saturated}
 
@@ -79,7 +81,7 @@ every test [] = true
 every test (x ∷ xs) = test x && every test xs
 
 abbrev pub edge_fits : Case → Triple → Bool
-edge_fits c t = nat_lt t.label c.labels && (nat_lt t.from c.nodes && nat_lt t.to c.nodes)
+edge_fits c = at (in_range? c.labels c.nodes)
 
 abbrev pub head_fits : Case → Rule → Bool
 head_fits c p = nat_lt p.head c.labels

@@ -2,13 +2,8 @@
 use Rattle.std.specs.Prelude.{◌≡◌, ℕ, ◌<◌, Bool, true, false, ◌&&◌, ◌||◌, List, [], ◌∷◌, ◌==◌, nat_lt}
 use Rattle.graph.specs.declared.item.Item.{Item}
 use Rattle.graph.specs.declared.item.Item.TheVariants.{Forward, Reversed}
+use Rattle.graph.specs.declared.triple.Triple.{Triple}
 use Rattle.graph.specs.Grammar.{String}
-
--- a triple is a label, a node that it starts from and a node that it goes to
-pub record Triple : Type 0 where
-  pub label : ℕ
-  pub from : ℕ
-  pub to : ℕ
 
 abbrev pub triple : ℕ → ℕ → ℕ → Triple
 triple a u v = record { label = a; from = u; to = v }
@@ -21,8 +16,12 @@ is t a u v = t.label == a && (t.from == u && t.to == v)
 abbrev pub Triples : Type 0
 Triples = ℕ → ℕ → ℕ → Bool
 
+-- what a function of a label, a from and a to says of a triple
+abbrev pub at : {A : Type 0} → (ℕ → ℕ → ℕ → A) → Triple → A
+at f t = f t.label t.from t.to
+
 abbrev pub in_set : Triples → Triple → Bool
-in_set A t = A t.label t.from t.to
+in_set = at
 
 -- the set of the triples in a list
 abbrev pub set_of : List Triple → Triples

@@ -3,7 +3,8 @@ use Rattle.std.specs.Prelude.{ℕ, zero, suc, Bool, true, false, not, ◌&&◌, 
 use Rattle.graph.specs.declared.item.Item.{Item}
 use Rattle.graph.specs.declared.item.Item.TheVariants.{Forward, Reversed}
 use Rattle.graph.specs.Grammar.{String, Grammar, HeadsBelow}
-use Rattle.graph.specs.Graph.{Triple, triple, Triples, in_set, set_of, Holds, Implies, Nodes, below, NodesWithin, InRange}
+use Rattle.graph.specs.declared.triple.Triple.{Triple}
+use Rattle.graph.specs.Graph.{triple, Triples, in_set, set_of, Holds, Implies, Nodes, below, NodesWithin, InRange}
 use Rattle.graph.specs.Reachability.{Defined}
 
 -- some number below n passes the test

@@ -14,23 +14,29 @@ pub enum Item {
     Reversed(u8),
 }
 
-impl Item {
-    /// The item that a byte of a file stands for. A byte that stands for none is refused: LABEL.
-    pub fn from_byte(byte: u8) -> Result<Self, Refusal>
-        ensures { result ≡ byte_item byte }
-    {
+/// The item that a byte of a file stands for. A byte that stands for none is refused: LABEL.
+impl TryFrom<u8> for Item {
+    type Error = Refusal;
+
+    ghost try_from_gives = { λ byte r. r ≡ byte_item byte };
+
+    fn try_from(byte: u8) -> Result<Self, Refusal> {
         match byte {
             0..=63 => Ok(Item::Forward(byte)),
             128..=191 => Ok(Item::Reversed(byte - 128)),
             _ => Err(Refusal::Label),
         }
     }
+}
 
-    /// The byte that stands for the item in a file. An item whose label no byte can give is refused: LABEL.
-    pub fn to_byte(self) -> Result<u8, Refusal>
-        ensures { result ≡ item_byte self }
-    {
-        match self {
+/// The byte that stands for an item in a file. An item whose label no byte can give is refused: LABEL.
+impl TryFrom<Item> for u8 {
+    type Error = Refusal;
+
+    ghost try_from_gives = { λ item r. r ≡ item_byte item };
+
+    fn try_from(item: Item) -> Result<Self, Refusal> {
+        match item {
             Item::Forward(label) if label < 64 => Ok(label),
             Item::Reversed(label) if label < 64 => Ok(label + 128),
             _ => Err(Refusal::Label),

@@ -1,7 +1,8 @@
 //! Why calls refuse, and the numbers that say so in files and answers.
 
-ghost use Rattle.std.specs.Prelude.{◌≡◌};
 ghost use Rattle.graph.specs.Refusals.{refusal_number};
+
+use crate::numbered::Numbered;
 
 /// Why a call refuses. Each case has the number by which files and answers name it.
 #[derive(Clone, Copy, Debug, PartialEq, Eq)]
@@ -28,11 +29,10 @@ pub enum Refusal {
     Short = 10,
 }
 
-impl Refusal {
-    /// The number that stands for the refusal in a file or an answer.
-    pub fn number(self) -> u8
-        ensures { result ≡ refusal_number self }
-    {
+impl Numbered for Refusal {
+    ghost number_of = { refusal_number };
+
+    fn number(self) -> u8 {
         self as u8
     }
 }

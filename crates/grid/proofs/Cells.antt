@@ -5,7 +5,8 @@ use mathlib.Core.Path.{fun_ext}
 use Rattle.std.proofs.lemmas.Nat.{mul-add-lt, div-mul-add, mod-mul-add}
 use Rattle.std.proofs.lemmas.Bool.{both_ways, cases_Bool, cases_eq, eq-eqb, ne_eqb}
 use Rattle.graph.specs.Graph.{triple, is}
-use Rattle.relation.specs.Sets.{with_triple, in_range?, Ranged}
+use Rattle.graph.specs.Counts.{in_range?, Ranged}
+use Rattle.relation.specs.Sets.{with_triple}
 use Rattle.relation.proofs.Added.{Same, is_same, is_other}
 use Rattle.relation.proofs.Ranges.{range_told, range_tested}
 use Rattle.grid.specs.Bits.{bit, with_bit, bit_of, cell}

@@ -6,9 +6,9 @@ use native.Mathlib.Nat.{zero-div}
 use Rattle.std.proofs.lemmas.List.{get_or_append_left, get_or-replicate, length-append, length-drop, length-replicate, length-take-le}
 use Rattle.std.proofs.lemmas.Bool.{and_left, and_parts, cases_Bool, cond-true, cond-false, le-ltb, leb-true}
 use Rattle.relation.specs.declared.fit.Fit.TheVariants.{Fits, Counts, Memory}
-use Rattle.relation.specs.Fits.{counts_fit}
+use Rattle.graph.specs.Counts.{counts_fit, in_range?}
 use Rattle.relation.specs.Meaning.{empty_store, with_held}
-use Rattle.relation.specs.Sets.{no_triples, in_range?, size_of}
+use Rattle.relation.specs.Sets.{no_triples, size_of}
 use Rattle.relation.proofs.Added.{size_none}
 use Rattle.relation.proofs.Ranges.{range_told, counts_few}
 use Rattle.grid.specs.Bits.{bit, bit_of, cell}

@@ -4,7 +4,8 @@ use Rattle.std.proofs.Common.{◌≡◌, ℕ, ◌+◌, ◌*◌, ◌^◌, ◌<◌
 use Rattle.std.proofs.lemmas.List.{length-set}
 use Rattle.std.proofs.lemmas.Bool.{cond-true}
 use Rattle.relation.specs.declared.answer.Grant.TheVariants.{Known, New}
-use Rattle.relation.specs.Sets.{with_triple, in_range?, size_of}
+use Rattle.graph.specs.Counts.{in_range?}
+use Rattle.relation.specs.Sets.{with_triple, size_of}
 use Rattle.relation.specs.Meaning.{fits?, put_answer, with_held, after_put}
 use Rattle.relation.proofs.Added.{size_with, size_small}
 use Rattle.relation.proofs.Puts.{fits_in_range, answer_taken, after_taken, after_known}

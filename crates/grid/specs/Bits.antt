@@ -1,7 +1,7 @@
 -- A row of 64-bit words as bits, counted from the lowest bit of the first word, and the triples whose bits are set. Assumes nothing.
 use Rattle.std.specs.Prelude.{ℕ, ◌+◌, ◌*◌, ◌/◌, ◌%◌, ◌^◌, Bool, cond, ◌&&◌, List, ◌==◌, bit_or, slice_index, slice_set}
 use Rattle.graph.specs.Graph.{Triples}
-use Rattle.relation.specs.Sets.{in_range?}
+use Rattle.graph.specs.Counts.{in_range?}
 
 -- bit k is set
 abbrev pub bit : List ℕ → ℕ → Bool

@@ -3,7 +3,7 @@ use Rattle.std.specs.Prelude.{◌≡◌, ℕ, ◌*◌, ◌<◌, cond, length}
 use Rattle.std.proofs.Common.{lit≤}
 use Rattle.std.proofs.lemmas.Bool.{and_parts}
 use Rattle.graph.specs.Graph.{Triples}
-use Rattle.relation.specs.Sets.{in_range?, Ranged}
+use Rattle.graph.specs.Counts.{in_range?, Ranged}
 use Rattle.relation.specs.Meaning.{Meaning, Lawful, empty_store}
 use Rattle.relation.proofs.Ranges.{range_places}
 use Rattle.grid.specs.Bits.{bit_of, cell}

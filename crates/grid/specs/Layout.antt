@@ -1,6 +1,6 @@
 -- Whether a grid can be made in some words, how many it needs, and what the words are once it is made. Assumes nothing.
 use Rattle.std.specs.Prelude.{ℕ, ◌+◌, ◌*◌, ◌/◌, Bool, cond, ◌&&◌, List, ◌++◌, length, drop, replicate, nat_le}
-use Rattle.relation.specs.Fits.{counts_fit}
+use Rattle.graph.specs.Counts.{counts_fit}
 use Rattle.relation.specs.declared.fit.Fit.{Fit}
 use Rattle.relation.specs.declared.fit.Fit.TheVariants.{Fits, Counts, Memory}
 

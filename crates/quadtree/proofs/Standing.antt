@@ -7,7 +7,8 @@ use Rattle.std.proofs.lemmas.List.{get_or-replicate, get_or_past}
 use Rattle.std.proofs.lemmas.Bool.{cases_eq, cases_lt, cases_Bool, and_parts, and_from, and_left, and_right, or_right, true≢false}
 use Rattle.std.proofs.lemmas.Bool.Decides.{nat_tests}
 use Rattle.graph.specs.Graph.{triple, Triples}
-use Rattle.relation.specs.Sets.{no_triples, with_triple, in_range?, Ranged, one, sum_below, size_of}
+use Rattle.graph.specs.Counts.{in_range?, Ranged}
+use Rattle.relation.specs.Sets.{no_triples, with_triple, one, sum_below, size_of}
 use Rattle.relation.proofs.Added.{Same, same_or_other, with_here, with_other, size_with, size_none}
 use Rattle.relation.proofs.Ranges.{range_told, range_tested}
 use Rattle.relation.proofs.Sums.{sum_zero, sum_term, sum_two_terms, sum_more}

@@ -5,7 +5,8 @@ use Rattle.std.proofs.lemmas.Bool.{leb-true, and_parts, and_from}
 use Rattle.graph.specs.Graph.{Triples}
 use Rattle.relation.specs.declared.answer.Grant.TheVariants.{Known, New}
 use Rattle.relation.specs.Meaning.{light?, fits?, put_answer, with_held, after_put}
-use Rattle.relation.specs.Sets.{with_triple, in_range?, Ranged}
+use Rattle.graph.specs.Counts.{in_range?, Ranged}
+use Rattle.relation.specs.Sets.{with_triple}
 use Rattle.relation.proofs.Puts.{fits_in_range, light_known, fits_range, fits_light, answer_taken, after_taken, after_known}
 use Rattle.relation.proofs.Ranges.{range_told}
 use Rattle.quadtree.specs.declared.pool.Pool.{Pool}

@@ -6,7 +6,8 @@ use Rattle.std.proofs.lemmas.Bool.{eq-eqb, eqb-true, cases_Bool, and_parts, and_
 use Rattle.graph.specs.Graph.{Triples}
 use Rattle.graph.specs.Saturation.{some_below}
 use Rattle.graph.proofs.Tested.{some_below_found, some_below_from}
-use Rattle.relation.specs.Sets.{no_triples, with_triple, Ranged, one, sum_below, size_of}
+use Rattle.graph.specs.Counts.{Ranged}
+use Rattle.relation.specs.Sets.{no_triples, with_triple, one, sum_below, size_of}
 use Rattle.relation.proofs.Added.{Same, same_or_other, with_here, with_other, within_with}
 use Rattle.relation.proofs.Sums.{sum_zero, sum_over_zero, sum_over_more}
 use Rattle.quadtree.specs.Monotone.{covering_mono}

@@ -2,7 +2,7 @@
 use Rattle.std.specs.Prelude.{ℕ, min, cond}
 use Rattle.relation.specs.declared.fit.Fit.{Fit}
 use Rattle.relation.specs.declared.fit.Fit.TheVariants.{Fits, Counts}
-use Rattle.relation.specs.Fits.{counts_fit}
+use Rattle.graph.specs.Counts.{counts_fit}
 use Rattle.relation.specs.Meaning.{Meaning, empty_store}
 use Rattle.quadtree.specs.Weights.{quad_weight}
 

@@ -6,7 +6,7 @@ use Rattle.relation.specs.declared.answer.Grant.{Grant}
 use Rattle.relation.specs.declared.answer.Grant.TheVariants.{New}
 use Rattle.relation.specs.declared.answer.StoreFault.{StoreFault}
 use Rattle.relation.specs.Meaning.{Meaning, Lawful}
-use Rattle.relation.specs.Sets.{in_range?}
+use Rattle.graph.specs.Counts.{in_range?}
 use Rattle.relation.proofs.Ranges.{range_places}
 use Rattle.quadtree.specs.declared.block.Block.{Block}
 use Rattle.quadtree.specs.declared.quadtree.Quadtree.{Quadtree}

@@ -1,7 +1,9 @@
 -- A tree for each label, all in one pool. Assumes nothing.
 use Rattle.std.specs.Prelude.{◌≡◌, ℕ, ◌^◌, true, ◌&&◌, List, slice_index}
-use Rattle.graph.specs.Graph.{Triple, Triples, in_set}
-use Rattle.relation.specs.Sets.{in_range?, sum_below}
+use Rattle.graph.specs.declared.triple.Triple.{Triple}
+use Rattle.graph.specs.Graph.{Triples, in_set}
+use Rattle.graph.specs.Counts.{in_range?}
+use Rattle.relation.specs.Sets.{sum_below}
 use Rattle.quadtree.specs.Links.{Links, cell, visits, bare}
 
 -- the triples in range whose cells stand in the trees

@@ -6,7 +6,7 @@ ghost use Rattle.records.specs.Reading.{entry};
 ghost use Rattle.records.specs.Writing.{put_answer, after_put, write_answer, after_write};
 
 use crate::record::{Output, Record};
-use graph::Refusal;
+use graph::{Numbered, Refusal};
 
 /// Writes `bytes` to the front of `out`, and says how many they are.
 fn put(bytes: &[u8], out: &mut [u8]) -> Result<usize, Refusal>

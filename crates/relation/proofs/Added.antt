@@ -5,7 +5,8 @@ use mathlib.Core.Path.{fun_ext}
 use Rattle.std.proofs.lemmas.Nat.{mul-le}
 use Rattle.std.proofs.lemmas.Bool.{cases_eq, eq-eqb, ne_eqb, or_left, or_right}
 use Rattle.graph.specs.Graph.{triple, is, Triples, Within}
-use Rattle.relation.specs.Sets.{no_triples, with_triple, Ranged, one, size_of}
+use Rattle.graph.specs.Counts.{Ranged}
+use Rattle.relation.specs.Sets.{no_triples, with_triple, one, size_of}
 use Rattle.relation.proofs.Sums.{sum_over_more, sum_over_zero, sum_over_bound}
 
 -- one triple is another where all three numbers are the same

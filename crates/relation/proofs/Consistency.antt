@@ -4,7 +4,8 @@ use Rattle.std.proofs.Common.{◌≡◌, ℕ, true, false, ltb, Result, refl, �
 use Rattle.std.proofs.lemmas.Bool.{lt-ltb, leb-true, and_from, cases_Bool}
 use Rattle.relation.specs.declared.answer.Grant.{Grant}
 use Rattle.relation.specs.declared.answer.StoreFault.{StoreFault}
-use Rattle.relation.specs.Sets.{with_triple, in_range?}
+use Rattle.graph.specs.Counts.{in_range?}
+use Rattle.relation.specs.Sets.{with_triple}
 use Rattle.relation.specs.Meaning.{Meaning, Lawful, light?, fits?, put_answer, after_put}
 use Rattle.relation.specs.Driving.{seen, Consistent}
 use Rattle.relation.proofs.Added.{with_here, within_with, size_with}

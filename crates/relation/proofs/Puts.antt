@@ -6,7 +6,8 @@ use Rattle.relation.specs.declared.answer.Grant.{Grant}
 use Rattle.relation.specs.declared.answer.Grant.TheVariants.{Known, New}
 use Rattle.relation.specs.declared.answer.StoreFault.{StoreFault}
 use Rattle.relation.specs.declared.answer.StoreFault.TheVariants.{Label, Node, Full}
-use Rattle.relation.specs.Sets.{with_triple, in_range?, Ranged}
+use Rattle.graph.specs.Counts.{in_range?, Ranged}
+use Rattle.relation.specs.Sets.{with_triple}
 use Rattle.relation.specs.Meaning.{Meaning, light?, fits?, put_answer, with_held, after_put}
 use Rattle.relation.proofs.Added.{with_known}
 use Rattle.relation.proofs.Ranges.{range_told, range_tested}

@@ -3,8 +3,7 @@
 use Rattle.std.proofs.Common.{◌≡◌, ℕ, ◌≤◌, true, ◌&&◌, ltb, leb}
 use Rattle.std.proofs.lemmas.Bool.{lt-ltb, ltb-true, leb-true, and_parts, and_from}
 use Rattle.graph.specs.Graph.{below, InRange}
-use Rattle.relation.specs.Fits.{counts_fit}
-use Rattle.relation.specs.Sets.{in_range?, Ranged}
+use Rattle.graph.specs.Counts.{counts_fit, in_range?, Ranged}
 
 module _ (l n a u v : ℕ) where
   -- the same in the words of the definitions over graphs

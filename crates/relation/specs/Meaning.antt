@@ -5,7 +5,8 @@ use Rattle.relation.specs.declared.answer.Grant.{Grant}
 use Rattle.relation.specs.declared.answer.Grant.TheVariants.{Known, New}
 use Rattle.relation.specs.declared.answer.StoreFault.{StoreFault}
 use Rattle.relation.specs.declared.answer.StoreFault.TheVariants.{Label, Node, Full}
-use Rattle.relation.specs.Sets.{no_triples, with_triple, in_range?, size_of}
+use Rattle.graph.specs.Counts.{in_range?}
+use Rattle.relation.specs.Sets.{no_triples, with_triple, size_of}
 
 -- the numbers of labels and nodes, how much may be held, what each set weighs, and the set that is held
 pub record Meaning : Type 0 where

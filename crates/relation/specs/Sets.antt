@@ -1,5 +1,5 @@
--- Triples in range, a set with one triple more, and how many triples a set has. Assumes nothing.
-use Rattle.std.specs.Prelude.{◌≡◌, ℕ, zero, suc, ◌+◌, ◌<◌, ◌≤◌, Bool, true, false, cond, ◌&&◌, ◌||◌, nat_lt, refl}
+-- A set with one triple more, and how many triples a set has. Assumes nothing.
+use Rattle.std.specs.Prelude.{◌≡◌, ℕ, zero, suc, ◌+◌, ◌≤◌, Bool, true, false, cond, ◌||◌, refl}
 use Rattle.std.proofs.Common.{ap, arith}
 use Rattle.graph.specs.Graph.{triple, is, Triples}
 
@@ -9,16 +9,6 @@ no_triples a u v = false
 -- the set together with the triple (a, u, v)
 abbrev pub with_triple : Triples → ℕ → ℕ → ℕ → Triples
 with_triple s a u v = λ b x y. is (triple a u v) b x y || s b x y
-
--- the label is below l and the nodes are below n
-abbrev pub in_range? : ℕ → ℕ → Triples
-in_range? l n a u v = nat_lt a l && (nat_lt u n && nat_lt v n)
-
--- what that test tests
-pub record Ranged (l n a u v : ℕ) : Type 0 where
-  pub label : a < l
-  pub from : u < n
-  pub to : v < n
 
 -- 1 for yes, 0 for no
 abbrev pub one : Bool → ℕ

@@ -1,7 +1,8 @@
 //! Whether a store of some numbers of labels and nodes can be made.
 
 ghost use Rattle.std.specs.Prelude.{◌≡◌};
-ghost use Rattle.relation.specs.Fits.{counts_fit, fit_number};
+ghost use Rattle.graph.specs.Counts.{counts_fit};
+ghost use Rattle.relation.specs.Fits.{fit_number};
 
 const MOST_LABELS: u8 = 64;
 

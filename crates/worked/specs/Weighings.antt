@@ -1,6 +1,7 @@
 -- Sets of triples over three labels and four nodes with what they weigh in a quadtree, and heights. Assumes nothing.
 use Rattle.std.specs.Prelude.{◌≡◌, Bool, List, [], ◌∷◌, ℕ, ◌-◌, ◌==◌, nat_le}
-use Rattle.graph.specs.Graph.{Triple, triple, set_of}
+use Rattle.graph.specs.declared.triple.Triple.{Triple}
+use Rattle.graph.specs.Graph.{triple, set_of}
 use Rattle.graph.specs.Saturation.{inside, from_all}
 use Rattle.relation.specs.Sets.{size_of}
 use Rattle.quadtree.specs.Heights.{height_of}

@@ -2,7 +2,7 @@
 
 ghost use Rattle.std.specs.Prelude.{◌≡◌};
 ghost use Rattle.relation.specs.Meaning.{held_weight, put_answer, after_put};
-ghost use Rattle.relation.specs.Sets.{in_range?};
+ghost use Rattle.graph.specs.Counts.{in_range?};
 ghost use Rattle.quadtree.specs.Quadtrees.{blocks_of, quad_meaning, quad_lawful, BlocksAfter};
 
 use crate::quadtree::Quadtree;

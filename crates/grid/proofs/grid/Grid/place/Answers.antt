@@ -1,7 +1,7 @@
 -- The words of a grid have a bit for each triple in range.
 -- Assumes nothing.
 use Rattle.std.proofs.Common.{refl, arith}
-use Rattle.relation.specs.Sets.{Ranged}
+use Rattle.graph.specs.Counts.{Ranged}
 use Rattle.grid.proofs.Cells.{bit_within}
 use Rattle.grid.proofs.grid.Grid.place.Goals as goal
 

@@ -1,0 +1,27 @@
+#!/usr/bin/env bash
+# Counts the places in src/ that docs/DESIGN-PASS.md speaks of, and files and lines of proofs. Run it at the top of a checkout.
+code() { find crates/*/src -name '*.rt' ! -name tests.rt | sort; }
+n() { printf '%-3s %-62s %s\n' "$1" "$2" "$(eval "$3" | wc -l)"; }
+n 1a "enums whose cases have numbers"                  "code | xargs grep -nE '^ +[A-Z][a-z]+ = [0-9]+,' | cut -d: -f1 | uniq -c"
+n 1b "functions that answer an own enum, not a Result" "code | xargs grep -nE 'fn .*-> (Fit|Grant|StoreFault|Stage|Refusal)\b'"
+n 1c "numbers that stand for a case"                   "code | xargs grep -nE 'link: u32|roots: \[u32|children: \[u32'"
+n 2a "fn number, fn answer_number"                     "code | xargs grep -nE 'fn (number|answer_number)\('"
+n 2b "range tests of a triple"                         "code | xargs grep -nE '(from|to) <=? self|(from|to) >= self'"
+n 2c "fn with a recursion of its own down a tree"      "code | xargs grep -nE '^ *(find|lacking|reach|insert|let below = insert)\('"
+n 2d "put and put_rule, each with its own test of the room" "code | xargs grep -nE 'if out.len\(\) < size'"
+n 3a "while"                                           "code | xargs grep -nE 'while '"
+n 3b "for over a range of numbers"                     "code | xargs grep -nE 'for .* in [^{]*\.\.'"
+n 3c "counters raised by hand in a loop"               "code | xargs grep -nE 'written \+='"
+n 3d "the same in tests"                               "grep -nE 'for [a-z]+ in [^{]*\.\.|place.saturating_add' crates/*/src/tests.rt"
+n 4a "conversions with a name of their own"            "code | xargs grep -nE 'fn (number|refusal|from_byte|to_byte|answer_number)\('"
+n 4b "conversions by as"                               "code | xargs grep -noE ' as (u8|u16|u32|u64|usize)\b'"
+n 4c "errors rebuilt by hand in a match"               "code | xargs grep -nE 'Err\((refusal|fault)\) =>'"
+n 5a "parameters label, from, to"                      "code | xargs grep -nE 'fn .*label: u8, from: u16, to: u16'"
+n 5b "parameters or fields labels, nodes"              "code | xargs grep -nE 'labels: u8(,|$)'"
+n 5c "parameters u, v"                                 "code | xargs grep -nE 'u: u16(, v: u16|,$)'"
+n 5d "conditions on callers"                           "code | xargs grep -nE '^ *requires'"
+n 6a "lent slices beside a count of what is used"      "code | xargs grep -nE 'spent: u32,|written: usize|\[written\.\.\]'"
+n 7  "switch on a step, tables of functions"           "code | xargs grep -nE 'fn\(|dyn |match .*(stage|step)'"
+n 8a "answers and invariants in proofs/"               "find crates/*/proofs -mindepth 2 -name '*.antt'"
+n 8b "lemma files in proofs/"                          "find crates/*/proofs -maxdepth 1 -name '*.antt' ! -name Lib.antt"
+n 8c "lines of proofs/"                                "cat \$(find crates/*/proofs -name '*.antt')"
