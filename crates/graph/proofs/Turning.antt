@@ -1,7 +1,8 @@
 -- Strings turned round: twice is not at all, and the parts of a string change places.
 -- Assumes nothing.
 use Rattle.std.proofs.Common.{◌≡◌, [], ◌∷◌, ◌++◌, map, reverse, sym, refl, ap, ◌∙◌, ap₂, append_assoc}
-use mathlib.Core.List.{reverse_aux, reverse-append, reverse-reverse}
+use mathlib.Core.List.{reverse_aux}
+use Rattle.std.proofs.lemmas.List.{map-append, reverse-append, reverse-reverse}
 use Rattle.graph.specs.declared.item.Item.{Item}
 use Rattle.graph.specs.declared.item.Item.TheVariants.{Forward, Reversed}
 use Rattle.graph.specs.Grammar.{String, item_label, turned_item, turned, in_place_of}
@@ -18,17 +19,13 @@ items_twice : (s : String) → map turned_item (map turned_item s) ≡ s
 items_twice [] = refl
 items_twice (x ∷ s) = ap₂ ◌∷◌ (turned_item_twice x) (items_twice s)
 
-items_append : (s t : String) → map turned_item (s ++ t) ≡ map turned_item s ++ map turned_item t
-items_append [] t = refl
-items_append (x ∷ s) t = ap (◌∷◌ (turned_item x)) (items_append s t)
-
 items_onto : (s t : String) → map turned_item (reverse_aux s t) ≡ reverse_aux (map turned_item s) (map turned_item t)
 items_onto [] t = refl
 items_onto (x ∷ s) t = items_onto s (x ∷ t)
 
 -- two parts change places
 pub turned_append : (s t : String) → turned (s ++ t) ≡ turned t ++ turned s
-turned_append s t = ap reverse (items_append s t) ∙ reverse-append (map turned_item s) (map turned_item t)
+turned_append s t = ap reverse (map-append turned_item s t) ∙ reverse-append (map turned_item s) (map turned_item t)
 
 -- so do the parts around an item
 pub turned_around : (b : String) (x : Item) (a : String) → turned (b ++ (x ∷ a)) ≡ turned a ++ (turned_item x ∷ turned b)

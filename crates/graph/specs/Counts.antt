@@ -1,7 +1,8 @@
 -- How many labels and nodes a store may have, which triples are in range of some, and what the checks of both answer. Assumes nothing.
 use Rattle.std.specs.Prelude.{ℕ, ◌<◌, Bool, cond, ◌&&◌, Ok, Err, Result, ⊤, nat_le, nat_lt}
+use Rattle.graph.specs.declared.counts.Counts.{Counts}
 use Rattle.graph.specs.declared.counts.FitFault.{FitFault}
-use Rattle.graph.specs.declared.counts.FitFault.TheVariants.{Counts, Memory}
+use Rattle.graph.specs.declared.counts.FitFault.TheVariants.{Counts as WrongCounts, Memory as LittleMemory}
 use Rattle.graph.specs.declared.counts.RangeFault.{RangeFault}
 use Rattle.graph.specs.declared.counts.RangeFault.TheVariants.{Label, Node}
 use Rattle.graph.specs.declared.refusal.Refusal.{Refusal}
@@ -9,16 +10,19 @@ use Rattle.graph.specs.declared.refusal.Refusal.TheVariants.{Counts as COUNTS, M
 use Rattle.graph.specs.Graph.{Triples}
 use Rattle.graph.specs.Refusals.{refusal_number}
 
+abbrev pub counts : ℕ → ℕ → Counts
+counts l n = record { labels = l; nodes = n }
+
 -- 1 to 64 labels and 1 to 1,024 nodes
 abbrev pub counts_fit : ℕ → ℕ → Bool
 counts_fit l n = nat_le 1 l && (nat_le l 64 && (nat_le 1 n && nat_le n 1024))
 
 abbrev pub counts_answer : ℕ → ℕ → Result ⊤ FitFault
-counts_answer l n = cond (counts_fit l n) (Ok tt) (Err Counts)
+counts_answer l n = cond (counts_fit l n) (Ok tt) (Err WrongCounts)
 
 abbrev pub fit_refusal : FitFault → Refusal
-fit_refusal Counts = COUNTS
-fit_refusal Memory = MEMORY
+fit_refusal WrongCounts = COUNTS
+fit_refusal LittleMemory = MEMORY
 
 abbrev pub fit_fault_number : FitFault → ℕ
 fit_fault_number fault = refusal_number (fit_refusal fault)

@@ -1,7 +1,7 @@
 //! How many labels and nodes there are, and what is in range of them.
 
 ghost use Rattle.std.specs.Prelude.{◌≡◌};
-ghost use Rattle.graph.specs.Counts.{counts_answer, in_range?, range_answer, fit_refusal, fit_fault_number, range_refusal};
+ghost use Rattle.graph.specs.Counts.{counts, counts_answer, in_range?, range_answer, fit_refusal, fit_fault_number, range_refusal};
 ghost use Rattle.graph.specs.Graph.{at};
 
 use crate::numbered::Numbered;
@@ -22,6 +22,13 @@ pub struct Counts {
 }
 
 impl Counts {
+    /// The counts of so many labels and nodes, which may be any numbers.
+    pub const fn new(labels: u8, nodes: u16) -> Self
+        ensures { result ≡ counts labels nodes }
+    {
+        Counts { labels, nodes }
+    }
+
     /// Whether a store may have so many labels and nodes: 1 to 64 labels, 1 to 1,024 nodes. Refuses others with COUNTS.
     pub fn fit(self) -> Result<(), FitFault>
         ensures { result ≡ counts_answer self.labels self.nodes }

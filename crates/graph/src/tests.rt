@@ -2,16 +2,21 @@ use super::*;
 
 #[test]
 fn numbers_the_refusals(rt: HostRuntime) {
-    assert_eq!(rt; Refusal::Counts.number(), 1);
-    assert_eq!(rt; Refusal::Memory.number(), 2);
-    assert_eq!(rt; Refusal::Shape.number(), 3);
-    assert_eq!(rt; Refusal::Match.number(), 4);
-    assert_eq!(rt; Refusal::Long.number(), 5);
-    assert_eq!(rt; Refusal::Label.number(), 6);
-    assert_eq!(rt; Refusal::Rules.number(), 7);
-    assert_eq!(rt; Refusal::Node.number(), 8);
-    assert_eq!(rt; Refusal::Full.number(), 9);
-    assert_eq!(rt; Refusal::Short.number(), 10);
+    let numbered = [
+        (Refusal::Counts, 1),
+        (Refusal::Memory, 2),
+        (Refusal::Shape, 3),
+        (Refusal::Match, 4),
+        (Refusal::Long, 5),
+        (Refusal::Label, 6),
+        (Refusal::Rules, 7),
+        (Refusal::Node, 8),
+        (Refusal::Full, 9),
+        (Refusal::Short, 10),
+    ];
+    for (refusal, number) in numbered {
+        assert_eq!(rt; refusal.number(), number);
+    }
 }
 
 #[test]
@@ -28,19 +33,19 @@ fn numbers_the_answers(rt: HostRuntime) {
     assert_eq!(rt; Refusal::from(RangeFault::Node), Refusal::Node);
 }
 
-/// The counts of so many labels and nodes.
-fn counts(labels: u8, nodes: u16) -> Counts {
-    Counts { labels, nodes }
-}
-
 #[test]
 fn counts_fit_from_one_on(rt: HostRuntime) {
-    assert_eq!(rt; counts(1, 1).fit(), Ok(()));
-    assert_eq!(rt; counts(0, 1).fit(), Err(FitFault::Counts));
-    assert_eq!(rt; counts(1, 0).fit(), Err(FitFault::Counts));
-    assert_eq!(rt; counts(64, 1024).fit(), Ok(()));
-    assert_eq!(rt; counts(65, 1024).fit(), Err(FitFault::Counts));
-    assert_eq!(rt; counts(64, 1025).fit(), Err(FitFault::Counts));
+    let cases = [
+        (1, 1, Ok(())),
+        (0, 1, Err(FitFault::Counts)),
+        (1, 0, Err(FitFault::Counts)),
+        (64, 1024, Ok(())),
+        (65, 1024, Err(FitFault::Counts)),
+        (64, 1025, Err(FitFault::Counts)),
+    ];
+    for (labels, nodes, expected) in cases {
+        assert_eq!(rt; Counts::new(labels, nodes).fit(), expected);
+    }
 }
 
 #[test]
@@ -53,32 +58,42 @@ fn looks_at_the_label_first(rt: HostRuntime) {
         (2, 0, 4, Err(RangeFault::Node)),
     ];
     for (label, from, to, expected) in cases {
-        let triple = Triple { label, from, to };
-        assert_eq!(rt; counts(3, 4).check(triple), expected);
-        assert_eq!(rt; counts(3, 4).covers(triple), expected.is_ok());
+        let triple = Triple::new(label, from, to);
+        assert_eq!(rt; Counts::new(3, 4).check(triple), expected);
+        assert_eq!(rt; Counts::new(3, 4).covers(triple), expected.is_ok());
     }
 }
 
 #[test]
 fn tells_items_from_bytes(rt: HostRuntime) {
-    assert_eq!(rt; Item::try_from(0u8), Ok(Item::Forward(0)));
-    assert_eq!(rt; Item::try_from(63u8), Ok(Item::Forward(63)));
-    assert_eq!(rt; Item::try_from(64u8), Err(Refusal::Label));
-    assert_eq!(rt; Item::try_from(127u8), Err(Refusal::Label));
-    assert_eq!(rt; Item::try_from(128u8), Ok(Item::Reversed(0)));
-    assert_eq!(rt; Item::try_from(191u8), Ok(Item::Reversed(63)));
-    assert_eq!(rt; Item::try_from(192u8), Err(Refusal::Label));
-    assert_eq!(rt; Item::try_from(255u8), Err(Refusal::Label));
+    let items = [
+        (0, Ok(Item::Forward(0))),
+        (63, Ok(Item::Forward(63))),
+        (64, Err(Refusal::Label)),
+        (127, Err(Refusal::Label)),
+        (128, Ok(Item::Reversed(0))),
+        (191, Ok(Item::Reversed(63))),
+        (192, Err(Refusal::Label)),
+        (255, Err(Refusal::Label)),
+    ];
+    for (byte, item) in items {
+        assert_eq!(rt; Item::try_from(byte), item);
+    }
 }
 
 #[test]
 fn gives_bytes_to_items(rt: HostRuntime) {
-    assert_eq!(rt; u8::try_from(Item::Forward(0)), Ok(0));
-    assert_eq!(rt; u8::try_from(Item::Forward(63)), Ok(63));
-    assert_eq!(rt; u8::try_from(Item::Forward(64)), Err(Refusal::Label));
-    assert_eq!(rt; u8::try_from(Item::Forward(255)), Err(Refusal::Label));
-    assert_eq!(rt; u8::try_from(Item::Reversed(0)), Ok(128));
-    assert_eq!(rt; u8::try_from(Item::Reversed(63)), Ok(191));
-    assert_eq!(rt; u8::try_from(Item::Reversed(64)), Err(Refusal::Label));
-    assert_eq!(rt; u8::try_from(Item::Reversed(255)), Err(Refusal::Label));
+    let bytes = [
+        (Item::Forward(0), Ok(0)),
+        (Item::Forward(63), Ok(63)),
+        (Item::Forward(64), Err(Refusal::Label)),
+        (Item::Forward(255), Err(Refusal::Label)),
+        (Item::Reversed(0), Ok(128)),
+        (Item::Reversed(63), Ok(191)),
+        (Item::Reversed(64), Err(Refusal::Label)),
+        (Item::Reversed(255), Err(Refusal::Label)),
+    ];
+    for (item, byte) in bytes {
+        assert_eq!(rt; u8::try_from(item), byte);
+    }
 }

@@ -21,10 +21,10 @@ module _ {g : Grid} {a u v k : ℕ} (p : Placed g a u v k) where
   ws = g.words.now
 
   abbrev l : ℕ
-  l = g.labels
+  l = g.counts.labels
 
   abbrev n : ℕ
-  n = g.nodes
+  n = g.counts.nodes
 
   fits : fits? (grid_meaning g) a u v ≡ true
   fits = fits_in_range (grid_meaning g) a u v p.range

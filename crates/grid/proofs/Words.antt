@@ -1,44 +1,20 @@
 -- The bits of a row of words, one of them set.
 -- Assumes nothing.
-use Rattle.std.proofs.Common.{◌≡◌, ℕ, suc, ◌+◌, ◌-◌, ◌*◌, ◌/◌, ◌%◌, ◌^◌, ◌<◌, max, true, ◌||◌, eqb, List, length, get_or, set, sym, ap, ◌∙◌, ⊎_elim, one-mul, pow-suc, arith}
-use native.Mathlib.Nat.{div-eq_of_lt, div_self, mul-mod_left}
-use lib.Bits.{bit_and, bit_or, or_step, and_high, or_add_and}
-use Rattle.std.proofs.lemmas.Nat.{pow_pos, pow-add, pow_below, one_shl, shl-shr, or_shr, mod-mul-add, mod_below}
+use Rattle.std.proofs.Common.{◌≡◌, ℕ, ◌*◌, ◌/◌, ◌%◌, ◌^◌, ◌<◌, true, ◌||◌, eqb, List, length, get_or, set, sym, ap, ◌∙◌, ⊎_elim, one-mul, arith}
+use lib.Bits.{bit_and, bit_or, or_add_and}
+use Rattle.std.proofs.lemmas.Nat.{one_shl}
+use Rattle.std.proofs.lemmas.Nat.Bits.{bit_at_or, bit_at-pow_same, bit_at-pow_other, bit_at-lt, and_pow}
 use Rattle.std.proofs.lemmas.List.{get_or-set_same, get_or-set_other, set-get_or}
-use Rattle.std.proofs.lemmas.Bool.{cases_eq, cases_order, eq-eqb, ne_eqb, eqb-true}
+use Rattle.std.proofs.lemmas.Bool.{cases_eq, eq-eqb, ne_eqb, eqb-true}
 use Rattle.grid.specs.Bits.{bit, with_bit}
-
--- a power of two has its own bit
-pow_bit : (i : ℕ) → 2 ^ i / 2 ^ i % 2 ≡ 1
-pow_bit i = ap (λ x. x % 2) (div_self (pow_pos i))
-
--- and no other
-pow_no_bit : (i j : ℕ) → (i ≡ j → ⊥) → 2 ^ j / 2 ^ i % 2 ≡ 0
-pow_no_bit i j apart =
-    ⊎_elim (λ e. absurd (apart e))
-    (⊎_elim
-    (λ below.
-    let d : ℕ = j - i - 1 in
-    let e : j ≡ suc d + i = omega arith in
-    ap (λ k. 2 ^ k / 2 ^ i % 2) e ∙ ap (λ x. x / 2 ^ i % 2) (pow-add 2 (suc d) i) ∙ ap (λ x. x % 2) (shl-shr (2 ^ suc d) i)
-    ∙ ap (λ x. x % 2) (pow-suc 2 d) ∙ mul-mod_left (2 ^ d) 2)
-    (λ above. ap (λ x. x % 2) (div-eq_of_lt (pow_below j i above))))
-    (cases_order i j)
-
-or_bit : (a b i : ℕ) → bit_or a b / 2 ^ i % 2 ≡ max (a / 2 ^ i % 2) (b / 2 ^ i % 2)
-or_bit a b i =
-    let x : ℕ = a / 2 ^ i in
-    let y : ℕ = b / 2 ^ i in
-    ap (λ w. w % 2) (or_shr a b i) ∙ ap (λ w. w % 2) (or_step x y)
-    ∙ mod-mul-add (bit_or (x / 2) (y / 2)) 2 (max (x % 2) (y % 2)) (omega (arith, mod_below x 2 (omega arith), mod_below y 2 (omega arith)))
 
 -- one word with bit j set
 word_bit : (w j i : ℕ) → eqb (bit_or w (2 ^ j) / 2 ^ i % 2) 1 ≡ (eqb i j || eqb (w / 2 ^ i % 2) 1)
 word_bit w j i =
     ⊎_elim
-    (λ e. let one : bit_or w (2 ^ j) / 2 ^ i % 2 ≡ 1 = rw e (omega (arith, or_bit w (2 ^ j) j, pow_bit j, mod_below (w / 2 ^ j) 2 (omega arith))) in
+    (λ e. let one : bit_or w (2 ^ j) / 2 ^ i % 2 ≡ 1 = rw e (omega (arith, bit_at_or w (2 ^ j) j, bit_at-pow_same j, bit_at-lt w j)) in
     ap (λ x. eqb x 1) one ∙ sym (ap (λ t. t || eqb (w / 2 ^ i % 2) 1) (eq-eqb i j e)))
-    (λ ne. let same : bit_or w (2 ^ j) / 2 ^ i % 2 ≡ w / 2 ^ i % 2 = omega (arith, or_bit w (2 ^ j) i, pow_no_bit i j ne) in
+    (λ ne. let same : bit_or w (2 ^ j) / 2 ^ i % 2 ≡ w / 2 ^ i % 2 = omega (arith, bit_at_or w (2 ^ j) i, bit_at-pow_other j i ne) in
     ap (λ x. eqb x 1) same ∙ sym (ap (λ t. t || eqb (w / 2 ^ i % 2) 1) (ne_eqb i j ne)))
     (cases_eq i j)
 
@@ -70,8 +46,7 @@ written_with_bit ws k = ap (λ m. set ws (k / 64) (bit_or (get_or ws (k / 64) 0)
 or_again : (w j : ℕ) → eqb (w / 2 ^ j % 2) 1 ≡ true → bit_or w (2 ^ j) ≡ w
 or_again w j is =
     let one : w / 2 ^ j % 2 ≡ 1 = eqb-true (w / 2 ^ j % 2) 1 is in
-    let mask : 2 ^ (1 + j) - 2 ^ j ≡ 2 ^ j = omega (arith, pow-add 2 1 j) in
-    let low : bit_and w (2 ^ j) ≡ 2 ^ j = ap (bit_and w) (sym mask) ∙ and_high w 1 j ∙ ap (λ x. x * 2 ^ j) one ∙ one-mul (2 ^ j) in
+    let low : bit_and w (2 ^ j) ≡ 2 ^ j = and_pow w j ∙ ap (λ x. x * 2 ^ j) one ∙ one-mul (2 ^ j) in
     omega (arith, or_add_and w (2 ^ j), low)
 
 -- a bit that is set already

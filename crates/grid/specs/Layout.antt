@@ -1,16 +1,16 @@
 -- Whether a grid can be made in some words, how many it needs, and what the words are once it is made. Assumes nothing.
-use Rattle.std.specs.Prelude.{ℕ, ◌+◌, ◌*◌, ◌/◌, Bool, cond, ◌&&◌, List, ◌++◌, length, drop, replicate, nat_le}
+use Rattle.std.specs.Prelude.{ℕ, ◌+◌, ◌*◌, ◌/◌, Bool, cond, ◌&&◌, List, ◌++◌, length, drop, replicate, Ok, Err, Result, ⊤, nat_le}
 use Rattle.graph.specs.Counts.{counts_fit}
-use Rattle.relation.specs.declared.fit.Fit.{Fit}
-use Rattle.relation.specs.declared.fit.Fit.TheVariants.{Fits, Counts, Memory}
+use Rattle.graph.specs.declared.counts.FitFault.{FitFault}
+use Rattle.graph.specs.declared.counts.FitFault.TheVariants.{Counts, Memory}
 
 -- k words have a bit for each triple of l labels and n nodes
 abbrev pub enough : ℕ → ℕ → ℕ → Bool
 enough l n k = nat_le (l * n * n) (64 * k)
 
 -- counts out of range are refused first, then too few words
-abbrev pub fit_answer : ℕ → ℕ → ℕ → Fit
-fit_answer l n k = cond (counts_fit l n) (cond (enough l n k) Fits Memory) Counts
+abbrev pub fit_answer : ℕ → ℕ → ℕ → Result ⊤ FitFault
+fit_answer l n k = cond (counts_fit l n) (cond (enough l n k) (Ok tt) (Err Memory)) (Err Counts)
 
 -- a grid of l labels and n nodes can be made in k words
 abbrev pub fitting : ℕ → ℕ → ℕ → Bool

@@ -4,6 +4,8 @@ ghost use Rattle.std.specs.Prelude.{◌≡◌, ◌*◌, ◌≤◌, length};
 ghost use Rattle.relation.specs.Sets.{size_of};
 ghost use Rattle.grid.specs.Bits.{cell};
 
+use graph::Counts;
+
 mod bits;
 mod make;
 mod store;
@@ -12,10 +14,9 @@ mod store;
 #[derive(Drop)]
 pub struct Grid<'a> {
     words: &'a mut [u64],
-    labels: u8,
-    nodes: u16,
+    counts: Counts,
     size: u32,
-    ghost few: { (labels ≤ 64) × (nodes ≤ 1024) },
-    ghost room: { labels * nodes * nodes ≤ 64 * length words.now },
-    ghost counted: { size ≡ size_of labels nodes (cell words.now labels nodes) },
+    ghost few: { (counts.labels ≤ 64) × (counts.nodes ≤ 1024) },
+    ghost room: { counts.labels * counts.nodes * counts.nodes ≤ 64 * length words.now },
+    ghost counted: { size ≡ size_of counts.labels counts.nodes (cell words.now counts.labels counts.nodes) },
 }

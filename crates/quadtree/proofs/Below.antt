@@ -1,8 +1,8 @@
 -- What stands below a link: nothing below 0, the same as long as no block there changes, and the parts of it below each quarter.
 -- Assumes nothing.
-use Rattle.std.proofs.Common.{◌≡◌, ℕ, zero, suc, ◌+◌, ◌-◌, ◌/◌, ◌^◌, ◌<◌, ◌≤◌, false, eqb, sym, refl, ap, ◌∙◌, subst, not-suc-le-zero, arith}
+use Rattle.std.proofs.Common.{◌≡◌, ℕ, zero, suc, ◌+◌, ◌-◌, ◌/◌, ◌^◌, ◌<◌, ◌≤◌, false, eqb, sym, refl, ap, ◌∙◌, not-suc-le-zero, arith}
 use Rattle.std.proofs.lemmas.Nat.{mod_below}
-use Rattle.std.proofs.lemmas.Bool.{eq-eqb, ne_eqb}
+use Rattle.std.proofs.lemmas.Bool.{eq-eqb}
 use Rattle.std.proofs.lemmas.Bool.Decides.{nat_tests}
 use Rattle.relation.specs.Sets.{one, sum_below}
 use Rattle.relation.proofs.Sums.{sum_same, sum_term}
@@ -47,44 +47,19 @@ module _ (ch : Links) where
   pub tree_child : (i j n q : ℕ) → q < 4 → Tree ch (suc i) (suc j) n → Tree ch (ch i q) j n
   tree_child i j n q within tree b = omega (arith, tree b, visits_child i j b q within)
 
-  -- the same, and what is found or lacking below a link, with the link and the height as the code has them
+  -- the same, with the link and the height as the code has them
   pub at_block : (l j n : ℕ) → 0 < l → 0 < j → Tree ch l j n → l ≤ n
   at_block zero j n hl hj tree = absurd (not-suc-le-zero hl)
   at_block (suc i) zero n hl hj tree = absurd (not-suc-le-zero hj)
   at_block (suc i) (suc j) n hl hj tree = omega (arith, tree_block i j n tree)
 
   pub at_child : (l j n q : ℕ) → 0 < l → 0 < j → q < 4 → Tree ch l j n → Tree ch (ch (l - 1) q) (j - 1) n
-  at_child zero j n q hl hj hq tree = absurd (not-suc-le-zero hl)
-  at_child (suc i) zero n q hl hj hq tree = absurd (not-suc-le-zero hj)
-  at_child (suc i) (suc j) n q hl hj hq tree =
-      let ei : i ≡ suc i - 1 = omega arith in
-      let ej : j ≡ suc j - 1 = omega arith in
-      subst (λ x. Tree ch (ch x q) (suc j - 1) n) ei (subst (λ x. Tree ch (ch i q) x n) ej (tree_child i j n q hq tree))
-
-  pub cell_found : (l j u v k : ℕ) → 0 < l → 0 < j → k ≡ quarter_of (j - 1) u v → cell ch l j u v ≡ cell ch (ch (l - 1) k) (j - 1) u v
-  cell_found zero j u v k hl hj e = absurd (not-suc-le-zero hl)
-  cell_found (suc i) zero u v k hl hj e = absurd (not-suc-le-zero hj)
-  cell_found (suc i) (suc j) u v k hl hj e =
-      let ei : i ≡ suc i - 1 = omega arith in
-      let ej : j ≡ suc j - 1 = omega arith in
-      let ek : quarter_of j u v ≡ k = ap (λ x. quarter_of x u v) ej ∙ sym e in
-      ap (λ q. cell ch (ch i q) j u v) ek ∙ ap (λ x. cell ch (ch x k) j u v) ei ∙ ap (λ x. cell ch (ch (suc i - 1) k) x u v) ej
-
-  pub lacks_found : (l j u v k : ℕ) → 0 < l → 0 < j → k ≡ quarter_of (j - 1) u v → lacks ch l j u v ≡ lacks ch (ch (l - 1) k) (j - 1) u v
-  lacks_found zero j u v k hl hj e = absurd (not-suc-le-zero hl)
-  lacks_found (suc i) zero u v k hl hj e = absurd (not-suc-le-zero hj)
-  lacks_found (suc i) (suc j) u v k hl hj e =
-      let ei : i ≡ suc i - 1 = omega arith in
-      let ej : j ≡ suc j - 1 = omega arith in
-      let ek : quarter_of j u v ≡ k = ap (λ x. quarter_of x u v) ej ∙ sym e in
-      let first : one (eqb (suc i) 0) ≡ 0 = ap one (ne_eqb (suc i) 0 (omega arith)) in
-      let rest : lacks ch (ch i (quarter_of j u v)) j u v ≡ lacks ch (ch (suc i - 1) k) (suc j - 1) u v =
-      ap (λ q. lacks ch (ch i q) j u v) ek ∙ ap (λ x. lacks ch (ch x k) j u v) ei ∙ ap (λ x. lacks ch (ch (suc i - 1) k) x u v) ej in
-      omega arith
-
-  pub lacks_fresh : (l j u v : ℕ) → 0 < j → l ≡ 0 → 0 < lacks ch l j u v
-  lacks_fresh l zero u v pos e = absurd (not-suc-le-zero pos)
-  lacks_fresh l (suc j) u v pos e = omega (arith, ap one (eq-eqb l 0 e))
+  at_child zero j n q hl hj hq tree b = absurd (not-suc-le-zero hl)
+  at_child (suc i) zero n q hl hj hq tree b = absurd (not-suc-le-zero hj)
+  at_child (suc i) (suc j) n q hl hj hq tree b =
+      let ei : suc i - 1 ≡ i = omega arith in
+      let ej : suc j - 1 ≡ j = omega arith in
+      rw (ei, ej) (tree_child i j n q hq tree b)
 
 -- Where no block below a link has changed, what stands below it has not.
 module _ (ch ch' : Links) where

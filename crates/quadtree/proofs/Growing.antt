@@ -37,7 +37,7 @@ begun_old ch ch1 i s s1 j e kept =
     record {
       spent = omega (arith, ap one (ne_eqb (suc i) 0 (omega arith)));
       counted = λ b.
-          let none : between s s1 b ≡ 0 = subst (λ n. between s n b ≡ 0) (sym e) (between_none s b) in
+          let none : between s s1 b ≡ 0 = rw e (between_none s b) in
           ap (λ c. visits c (suc i) (suc j) b) same ∙ omega arith;
       cells = λ x y. ap (λ c. cell c (suc i) (suc j) x y) same;
       lacking = λ q u v. ap (λ c. lacks c (c i q) j u v) same;
@@ -52,7 +52,7 @@ begun_fresh ch ch1 s s1 j e empty kept =
       counted = λ b.
           let none : sum_below 4 (λ q. visits ch1 (ch1 s q) j b) ≡ 0 =
           sum_zero 4 (λ q. visits ch1 (ch1 s q) j b) (λ q _. ap (λ l. visits ch1 l j b) (empty q) ∙ visits_none ch1 j b) in
-          let here : one (eqb s b) ≡ between s s1 b = subst (λ n. one (eqb s b) ≡ between s n b) (sym e) (between_one s b) in
+          let here : one (eqb s b) ≡ between s s1 b = rw e (between_one s b) in
           omega arith;
       cells = λ x y. ap (λ l. cell ch1 l j x y) (empty (quarter_of j x y)) ∙ cell_none ch1 j x y ∙ sym (cell_none ch j x y);
       lacking = λ q u v. ap (λ l. lacks ch1 l j u v) (empty q) ∙ lacks_none ch1 j u v ∙ sym (lacks_none ch j u v);
@@ -64,11 +64,11 @@ opened_begun : (ch ch1 : Links) (l l1 s s1 j : ℕ) → Opened ch ch1 l l1 s s1 
 opened_begun ch ch1 zero l1 s s1 j opened =
     let fresh = opened.fresh refl in
     let e : s ≡ l1 - 1 = omega (arith, fresh.link) in
-    subst (λ i. Begun ch ch1 0 i s s1 j) e (begun_fresh ch ch1 s s1 j fresh.spent fresh.empty fresh.blocks)
+    rw (← e) (begun_fresh ch ch1 s s1 j fresh.spent fresh.empty fresh.blocks)
 opened_begun ch ch1 (suc i) l1 s s1 j opened =
     let old = opened.old (omega arith) in
     let e : i ≡ l1 - 1 = omega (arith, old.link) in
-    subst (λ i'. Begun ch ch1 (suc i) i' s s1 j) e (begun_old ch ch1 i s s1 j old.spent old.blocks)
+    rw (← e) (begun_old ch ch1 i s s1 j old.spent old.blocks)
 
 opened_some : (ch ch1 : Links) (l l1 s s1 : ℕ) → Opened ch ch1 l l1 s s1 → 0 < l1
 opened_some ch ch1 zero l1 s s1 opened = omega (arith, (opened.fresh refl).link)
@@ -112,7 +112,7 @@ module _ (ch ch1 ch2 ch3 : Links) (l i s s1 s2 j u v c' : ℕ) (tree : Tree ch l
 
   other : (b q : ℕ) → q < 4 → 0 < at b q → b ≢ i
   other b q within here e =
-      let none : at b q ≡ 0 = subst (λ x. at x q ≡ 0) (sym e) (i_apart q within) in
+      let none : at b q ≡ 0 = rw e (i_apart q within) in
       omega arith
 
   -- and what stands below another quarter does not stand below quarter k
@@ -142,7 +142,7 @@ module _ (ch ch1 ch2 ch3 : Links) (l i s s1 s2 j u v c' : ℕ) (tree : Tree ch l
   k_kept b r here =
       linked.blocks b r (λ e.
       let none : visits ch2 c' j i ≡ 0 = omega (arith, below.counted i, i_apart k k_below, between_below s1 s2 i i_taken) in
-      let none_b : visits ch2 c' j b ≡ 0 = subst (λ x. visits ch2 c' j x ≡ 0) (sym e) none in
+      let none_b : visits ch2 c' j b ≡ 0 = rw e none in
       omega arith)
 
   k_visits : (b : ℕ) → visits ch3 (ch3 i k) j b ≡ at b k + between s1 s2 b
@@ -172,7 +172,7 @@ module _ (ch ch1 ch2 ch3 : Links) (l i s s1 s2 j u v c' : ℕ) (tree : Tree ch l
   grown_kept : (b q : ℕ) → b < s → visits ch l (suc j) b ≡ 0 → ch3 b q ≡ ch b q
   grown_kept b q before none =
       let nowhere : one (eqb i b) + sum_below 4 (at b) ≡ 0 = omega (arith, begun.counted b, between_below s s1 b before) in
-      let ne : b ≢ i = λ e. (let here : one (eqb i b) ≡ 1 = subst (λ x. one (eqb i x) ≡ 1) (sym e) (one_self i) in omega arith) in
+      let ne : b ≢ i = λ e. (let here : one (eqb i b) ≡ 1 = rw e (one_self i) in omega arith) in
       linked.blocks b q ne
       ∙ below.kept b q (omega (arith, begun.spent)) (omega (arith, sum_term 4 (at b) k k_below))
       ∙ begun.kept b q before
@@ -186,7 +186,7 @@ module _ (ch ch1 ch2 ch3 : Links) (l i s s1 s2 j u v c' : ℕ) (tree : Tree ch l
       let at_k : bare ch3 (ch3 i k) j ≡ 0 =
       ap (λ m. bare ch3 m j) linked.here ∙ frame_bare ch2 ch3 c' j k_kept ∙ below.full (begun.full none k k_below) in
       let rest : sum_below 4 (λ q. bare ch3 (ch3 i q) j) ≡ 0 =
-      sum_zero 4 (λ q. bare ch3 (ch3 i q) j) (λ q within. ⊎_elim (λ e. subst (λ r. bare ch3 (ch3 i r) j ≡ 0) (sym e) at_k) (beside q within) (cases_eq q k)) in
+      sum_zero 4 (λ q. bare ch3 (ch3 i q) j) (λ q within. ⊎_elim (λ e. rw e at_k) (beside q within) (cases_eq q k)) in
       omega arith
 
   grow_step : Grown ch ch3 l (suc i) s s2 (suc j) u v
@@ -218,10 +218,8 @@ module _ {ch ch1 : Links} {l l1 s s1 : ℕ} where
       record {
         some = opened_some ch ch1 l l1 s s1 opened;
         block = omega (arith, tree_block ch1 (l1 - 1) j s1 tree1);
-        room =
-            ap (λ x. s1 + lacks ch1 (ch1 (l1 - 1) k) x u v) ej ∙ ap (λ q. s1 + lacks ch1 (ch1 (l1 - 1) q) j u v) ek
-            ∙ omega (arith, begun.spent, begun.lacking (quarter_of j u v) u v);
-        tree = subst (λ x. Tree ch1 (ch1 (l1 - 1) k) x s1) (sym ej) (tree_child ch1 (l1 - 1) j s1 k (omega (arith, quarter_below j u v)) tree1);
+        room = rw (ej, ek) (omega (arith, begun.spent, begun.lacking (quarter_of j u v) u v));
+        tree = λ b. rw ej (tree_child ch1 (l1 - 1) j s1 k (omega (arith, quarter_below j u v)) tree1 b);
       }
 
   pub grown : {ch2 ch3 : Links} {s2 c' : ℕ} (h k u v : ℕ) → 0 < h → k ≡ quarter_of (h - 1) u v → Tree ch l h s → Opened ch ch1 l l1 s s1 →
@@ -232,7 +230,5 @@ module _ {ch ch1 : Links} {l l1 s s1 : ℕ} where
       let ek : k ≡ quarter_of j u v = e ∙ ap (λ x. quarter_of x u v) ej in
       let some = opened_some ch ch1 l l1 s s1 opened in
       let el : suc (l1 - 1) ≡ l1 = omega arith in
-      let below_j : Grown ch1 ch2 (ch1 (l1 - 1) (quarter_of j u v)) c' s1 s2 j u v =
-      subst (λ q. Grown ch1 ch2 (ch1 (l1 - 1) q) c' s1 s2 j u v) ek (subst (λ x. Grown ch1 ch2 (ch1 (l1 - 1) k) c' s1 s2 x u v) ej below) in
-      subst (λ x. Grown ch ch3 l x s s2 (suc j) u v) el
-      (grow_step ch ch1 ch2 ch3 l (l1 - 1) s s1 s2 j u v c' tree (opened_begun ch ch1 l l1 s s1 j opened) below_j (subst (λ q. Linked ch2 ch3 (l1 - 1) q c') ek linked))
+      rw (← el)
+      (grow_step ch ch1 ch2 ch3 l (l1 - 1) s s1 s2 j u v c' tree (opened_begun ch ch1 l l1 s s1 j opened) (rw (ej, ek) at below) (rw ek at linked))

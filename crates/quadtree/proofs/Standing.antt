@@ -1,6 +1,6 @@
 -- What always holds of the trees, and that an insertion of a new triple keeps it.
 -- Assumes nothing.
-use Rattle.std.proofs.Common.{◌≡◌, ℕ, ◌+◌, ◌^◌, ◌<◌, ◌≤◌, true, false, ◌&&◌, ◌||◌, ltb, ◌≢◌, List, get_or, replicate, sym, ap, ◌∙◌, subst, ⊎_elim, arith}
+use Rattle.std.proofs.Common.{◌≡◌, ℕ, ◌+◌, ◌^◌, ◌<◌, ◌≤◌, true, false, ◌&&◌, ◌||◌, ltb, ◌≢◌, List, get_or, replicate, sym, ap, ◌∙◌, ⊎_elim, arith}
 use mathlib.Core.Path.{fun_ext}
 use mathlib.Core.Bool.{or-false}
 use Rattle.std.proofs.lemmas.List.{get_or-replicate, get_or_past}
@@ -85,8 +85,7 @@ module _ (ch : Links) (roots : List ℕ) (l n h s z a u v : ℕ) (wide : n ≤ 2
     cell_other b x y hb hx hy ne =
         ⊎_elim
         (λ e. let away = same_not h u v x y u_below v_below hx hy (λ k. ne (e, sym k.0, sym k.1)) in
-        subst (λ b. cell ch' (get_or roots' b 0) h x y ≡ cell ch (get_or roots b 0) h x y) (sym e)
-        (grown.cells x y ∙ ap (λ t. cell ch (get_or roots a 0) h x y || t) away ∙ or-false (cell ch (get_or roots a 0) h x y)))
+        rw e (grown.cells x y ∙ ap (λ t. cell ch (get_or roots a 0) h x y || t) away ∙ or-false (cell ch (get_or roots a 0) h x y)))
         (λ nb. ap (λ l. cell ch' l h x y) (others b nb) ∙ frame_cell ch ch' (get_or roots b 0) h (apart b hb nb) x y)
         (cases_eq b a)
 

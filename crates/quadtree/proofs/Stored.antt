@@ -1,18 +1,19 @@
 -- What the facts in a quadtree's type give for the calls of a store.
 -- Assumes nothing.
-use Rattle.std.proofs.Common.{◌≡◌, ℕ, ◌+◌, ◌^◌, ◌<◌, ◌≤◌, true, false, leb, ◌≢◌, get_or, Ok, sym, ap, ◌∙◌, subst, ap₂, arith}
-use Rattle.std.proofs.lemmas.Bool.{leb-true, and_parts, and_from}
+use Rattle.std.proofs.Common.{◌≡◌, ℕ, ◌+◌, ◌^◌, ◌<◌, ◌≤◌, true, false, leb, ◌&&◌, ltb, ◌≢◌, List, length, get_or, set, Ok, Err, sym, ap, ◌∙◌, subst, arith}
+use Rattle.std.proofs.lemmas.Bool.{leb-true, lt-ltb}
+use Rattle.std.proofs.lemmas.List.{get_or-set_same, get_or-set_other}
 use Rattle.graph.specs.Graph.{Triples}
 use Rattle.relation.specs.declared.answer.Grant.TheVariants.{Known, New}
+use Rattle.relation.specs.declared.answer.StoreFault.TheVariants.{Full}
 use Rattle.relation.specs.Meaning.{light?, fits?, put_answer, with_held, after_put}
-use Rattle.graph.specs.Counts.{in_range?, Ranged}
+use Rattle.graph.specs.Counts.{Ranged}
 use Rattle.relation.specs.Sets.{with_triple}
-use Rattle.relation.proofs.Puts.{fits_in_range, light_known, fits_range, fits_light, answer_taken, after_taken, after_known}
-use Rattle.relation.proofs.Ranges.{range_told}
-use Rattle.quadtree.specs.declared.pool.Pool.{Pool}
+use Rattle.relation.proofs.Puts.{fits_in_range, light_known, answer_taken, after_taken, after_known, after_refused}
+use Rattle.relation.proofs.Ranges.{range_tested}
 use Rattle.quadtree.specs.declared.quadtree.Quadtree.{Quadtree}
 use Rattle.quadtree.specs.Growth.{Tree, Grown}
-use Rattle.quadtree.specs.Links.{Links, lacks}
+use Rattle.quadtree.specs.Links.{Links, cell, Ended}
 use Rattle.quadtree.specs.Pools.{links}
 use Rattle.quadtree.specs.Quadtrees.{blocks_of, quad_meaning, quad_lawful}
 use Rattle.quadtree.specs.Trees.{holding}
@@ -24,93 +25,98 @@ module _ (q : Quadtree) where
   abbrev ch : Links
   ch = links (blocks_of q)
 
-  pub sound : Sound ch q.pool.roots q.labels q.nodes q.height q.pool.spent q.size
+  sound : Sound ch q.roots q.counts.labels q.counts.nodes q.height q.spent q.size
   sound = record { tree = q.tree; full = q.full; inside = q.inside; weighed = q.weighed; sized = q.sized }
 
-  pub wide : q.nodes ≤ 2 ^ q.height
-  wide = subst (λ h. q.nodes ≤ 2 ^ h) (sym q.tall) (heights_least q.nodes).wide
+  wide : q.counts.nodes ≤ 2 ^ q.height
+  wide = rw q.tall (heights_least q.counts.nodes).wide
 
   pub low : q.height ≤ 16
-  low = omega (arith, q.tall, (heights_least q.nodes).least 10 (omega arith) q.few.1)
+  low = omega (arith, q.tall, (heights_least q.counts.nodes).least 10 (omega arith) q.few.1)
 
   -- the height in the weight is the height of the trees
-  pub weight_is : (s : Triples) → (quad_meaning q).weight s ≡ weight_of q.labels q.nodes q.height s
-  weight_is s = ap (λ h. weight_of q.labels q.nodes h s) (sym q.tall)
+  weight_is : (s : Triples) → (quad_meaning q).weight s ≡ weight_of q.counts.labels q.counts.nodes q.height s
+  weight_is s = ap (λ h. weight_of q.counts.labels q.counts.nodes h s) (sym q.tall)
 
-  pub tree_among : (a m : ℕ) → a < q.labels → q.pool.spent ≤ m → Tree ch (get_or q.pool.roots a 0) q.height m
-  tree_among a m ha within = label_tree ch q.pool.roots q.labels q.height q.pool.spent a m ha within q.tree
+  pub tree_among : (a m : ℕ) → a < q.counts.labels → q.spent ≤ m → Tree ch (get_or q.roots a 0) q.height m
+  tree_among a m ha within = label_tree ch q.roots q.counts.labels q.height q.spent a m ha within q.tree
 
--- what the trees hold in another pool
-abbrev held_in : Quadtree → Pool → Triples
-held_in q p = holding (links p.blocks.now) p.roots q.labels q.nodes q.height
+-- what a put of a new triple has done, over the links, the roots and the spent count that it leaves
+pub record Inserted (q : Quadtree) (a u v : ℕ) (ch' : Links) (roots' : List ℕ) (s' : ℕ) : Type 0 where
+  pub sound : Sound ch' roots' q.counts.labels q.counts.nodes q.height s' (q.size + 1)
+  pub room : s' ≤ q.capacity
+  pub after : with_held (quad_meaning q) (holding ch' roots' q.counts.labels q.counts.nodes q.height) ≡ after_put (quad_meaning q) a u v
 
--- what a put of a new triple has done, over the pool that it leaves
-pub record Inserted (q : Quadtree) (a u v : ℕ) (p : Pool) : Type 0 where
-  pub sound : Sound (links p.blocks.now) p.roots q.labels q.nodes q.height p.spent (q.size + 1)
-  pub room : p.spent ≤ q.capacity
-  pub answer : put_answer (quad_meaning q) a u v ≡ Ok New
-  pub after : with_held (quad_meaning q) (held_in q p) ≡ after_put (quad_meaning q) a u v
-  pub weight : p.spent ≡ (quad_meaning q).weight (held_in q p)
-
-module _ (q : Quadtree) (a u v : ℕ) where
+-- The triple is in range, and the way down to its cell ends at the link l and the height j.
+module _ (q : Quadtree) {a u v l j : ℕ} (end : Ended (ch q) (get_or q.roots a 0) q.height u v l j) (r : Ranged q.counts.labels q.counts.nodes a u v) where
   abbrev root : ℕ
-  root = get_or q.pool.roots a 0
+  root = get_or q.roots a 0
 
-  -- the triple is in range
-  abbrev In : Type 0
-  In = Ranged q.labels q.nodes a u v
+  -- it is held where that link is not 0
+  held_is : (quad_meaning q).held a u v ≡ ltb 0 l
+  held_is = ap (λ t. t && cell (ch q) root q.height u v) (range_tested q.counts.labels q.counts.nodes a u v r) ∙ sym end.stands
 
-  pub in_told : true ≡ in_range? q.labels q.nodes a u v → In
-  in_told e = range_told q.labels q.nodes a u v (sym e)
-
-  -- a triple is light enough where the blocks that it lacks are there
-  pub light_is : In → light? (quad_meaning q) a u v ≡ leb (q.pool.spent + lacks (ch q) root q.height u v) q.capacity
-  light_is r =
+  -- and light enough where the blocks that it lacks are there
+  light_is : light? (quad_meaning q) a u v ≡ leb (q.spent + j) q.capacity
+  light_is =
       ap (λ w. leb w q.capacity)
       (weight_is q (with_triple (quad_meaning q).held a u v)
-      ∙ weight_lacking (ch q) q.pool.roots q.labels q.nodes q.height q.pool.spent q.size a u v (wide q) r (sound q))
+      ∙ weight_lacking (ch q) q.roots q.counts.labels q.counts.nodes q.height q.spent q.size a u v (wide q) r (sound q)
+      ∙ ap (λ n. q.spent + n) (sym end.lacking))
 
-  -- and so it fits
-  pub fits_is : In → (with_it most : ℕ) → with_it ≡ q.pool.spent + lacks (ch q) root q.height u v → most ≡ q.capacity →
-      leb with_it most ≡ fits? (quad_meaning q) a u v
-  fits_is r with_it most e f = ap₂ leb e f ∙ sym (fits_in_range (quad_meaning q) a u v r ∙ light_is r)
+  pub fits_is : fits? (quad_meaning q) a u v ≡ leb (q.spent + j) q.capacity
+  fits_is = fits_in_range (quad_meaning q) a u v r ∙ light_is
 
-  -- A triple that is held: a put says so, and changes nothing.
-  module _ (held : true ≡ (quad_meaning q).held a u v) where
+  -- A put of a triple that is held says so, and changes nothing.
+  module _ (some : 0 < l) where
+    held : (quad_meaning q).held a u v ≡ true
+    held = held_is ∙ lt-ltb 0 l some
+
     held_fits : fits? (quad_meaning q) a u v ≡ true
-    held_fits =
-        and_from (in_range? q.labels q.nodes a u v) (light? (quad_meaning q) a u v) (and_parts (in_range? q.labels q.nodes a u v) _ (sym held)).0
-        (light_known (quad_meaning q) a u v (quad_lawful q).bounded (sym held))
+    held_fits = fits_in_range (quad_meaning q) a u v r ∙ light_known (quad_meaning q) a u v (quad_lawful q).bounded held
 
     pub known_answer : Ok Known ≡ put_answer (quad_meaning q) a u v
-    known_answer = sym (answer_taken (quad_meaning q) a u v held_fits true (sym held))
+    known_answer = sym (answer_taken (quad_meaning q) a u v held_fits true held)
 
     pub known_after : quad_meaning q ≡ after_put (quad_meaning q) a u v
-    known_after = sym (after_known (quad_meaning q) a u v held_fits (sym held))
+    known_after = sym (after_known (quad_meaning q) a u v held_fits held)
 
-  -- A triple that fits: the blocks that it lacks are there.
-  module _ (fits : true ≡ fits? (quad_meaning q) a u v) where
-    pub fits_in : In
-    fits_in = fits_range (quad_meaning q) a u v (sym fits)
+  -- So does one of a triple that lacks more blocks than are left.
+  module _ (full : false ≡ leb (q.spent + j) q.capacity) where
+    pub full_answer : Err Full ≡ put_answer (quad_meaning q) a u v
+    full_answer = simp (lt-ltb a q.counts.labels r.label, lt-ltb u q.counts.nodes r.from, lt-ltb v q.counts.nodes r.to, light_is, sym full)
 
-    pub fits_room : q.pool.spent + lacks (ch q) root q.height u v ≤ q.capacity
-    fits_room = leb-true (q.pool.spent + lacks (ch q) root q.height u v) q.capacity (sym (light_is fits_in) ∙ fits_light (quad_meaning q) a u v (sym fits))
+    pub full_after : quad_meaning q ≡ after_put (quad_meaning q) a u v
+    full_after = sym (after_refused (quad_meaning q) a u v (fits_is ∙ sym full))
 
-    -- where it is new, and the pool has grown by it
-    pub inserted : false ≡ (quad_meaning q).held a u v → (p : Pool) →
-        Grown (ch q) (links p.blocks.now) root (get_or p.roots a 0) q.pool.spent p.spent q.height u v →
-        ((b : ℕ) → b ≢ a → get_or p.roots b 0 ≡ get_or q.pool.roots b 0) → Inserted q a u v p
-    inserted new p grown others =
-        let s =
-        sound_grown (ch q) q.pool.roots q.labels q.nodes q.height q.pool.spent q.size a u v (wide q) fits_in (sound q)
-        (links p.blocks.now) p.roots p.spent grown others (sym new) in
-        let joins =
-        holding_with (ch q) q.pool.roots q.labels q.nodes q.height q.pool.spent q.size a u v (wide q) fits_in (sound q)
-        (links p.blocks.now) p.roots p.spent grown others in
-        record {
-          sound = s;
-          room = omega (arith, fits_room, grown.spent);
-          answer = answer_taken (quad_meaning q) a u v (sym fits) false (sym new);
-          after = ap (with_held (quad_meaning q)) joins ∙ sym (after_taken (quad_meaning q) a u v (sym fits));
-          weight = s.weighed ∙ sym (weight_is q (held_in q p));
-        }
+  -- One of a new triple whose blocks are there says that it is new, and makes the trees grow by it.
+  module _ (none : l ≡ 0) (room : true ≡ leb (q.spent + j) q.capacity) where
+    fits : fits? (quad_meaning q) a u v ≡ true
+    fits = fits_is ∙ sym room
+
+    new : (quad_meaning q).held a u v ≡ false
+    new = held_is ∙ ap (ltb 0) none
+
+    pub new_answer : Ok New ≡ put_answer (quad_meaning q) a u v
+    new_answer = sym (answer_taken (quad_meaning q) a u v fits false new)
+
+    module _ {i x s' : ℕ} {ch' : Links} (place : i ≡ a) (rooted : i < length q.roots)
+        (grown : Grown (ch q) ch' (get_or q.roots i 0) x q.spent s' q.height u v) where
+      abbrev roots' : List ℕ
+      roots' = set q.roots i x
+
+      grown_here : Grown (ch q) ch' root (get_or roots' a 0) q.spent s' q.height u v
+      grown_here = subst (λ k. Grown (ch q) ch' (get_or q.roots k 0) (get_or roots' k 0) q.spent s' q.height u v) place (rw get_or-set_same grown)
+
+      others : (b : ℕ) → b ≢ a → get_or roots' b 0 ≡ get_or q.roots b 0
+      others b ne = get_or-set_other q.roots i b x 0 (omega arith)
+
+      pub inserted : Inserted q a u v ch' roots' s'
+      inserted =
+          let s = sound_grown (ch q) q.roots q.counts.labels q.counts.nodes q.height q.spent q.size a u v (wide q) r (sound q) ch' roots' s' grown_here others new in
+          let joins = holding_with (ch q) q.roots q.counts.labels q.counts.nodes q.height q.spent q.size a u v (wide q) r (sound q) ch' roots' s' grown_here others in
+          record {
+            sound = s;
+            room = omega (arith, leb-true (q.spent + j) q.capacity (sym room), grown_here.spent, end.lacking);
+            after = ap (with_held (quad_meaning q)) joins ∙ sym (after_taken (quad_meaning q) a u v fits);
+          }

@@ -2,7 +2,7 @@
 -- Assumes nothing.
 use Rattle.std.proofs.Common.{◌≡◌, ℕ, zero, suc, ◌+◌, ◌/◌, ◌^◌, ◌<◌, Bool, true, false, not, ◌&&◌, eqb, sym, refl, ap, ◌∙◌, ⊎_elim, arith}
 use Rattle.std.proofs.lemmas.Nat.{shr_le}
-use Rattle.std.proofs.lemmas.Bool.{eq-eqb, eqb-true, cases_Bool, and_parts, and_from, true≢false}
+use Rattle.std.proofs.lemmas.Bool.{eq-eqb, eqb-true, cases_Bool, and_parts, and_from, true≢false, false_from_ne_true}
 use Rattle.graph.specs.Graph.{Triples}
 use Rattle.graph.specs.Saturation.{some_below}
 use Rattle.graph.proofs.Tested.{some_below_found, some_below_from}
@@ -52,7 +52,7 @@ module _ (n j : ℕ) (s : Triples) (a p q : ℕ) where
 
   -- a block that covers nothing
   pub covering_not : (Covered n j s a p q → ⊥) → covering n j s a p q ≡ false
-  covering_not none = ⊎_elim (λ yes. absurd (none (covering_found yes))) (λ no. no) (cases_Bool (covering n j s a p q))
+  covering_not none = false_from_ne_true (covering n j s a p q) (λ yes. none (covering_found yes))
 
 pub weight_none : (l n h : ℕ) → weight_of l n h no_triples ≡ 0
 weight_none l n h =

@@ -1,13 +1,8 @@
--- Which numbers of labels and nodes make a quadtree, and what it then means. Assumes nothing.
+-- What a quadtree means that is made, with a fit and without. Assumes nothing.
 use Rattle.std.specs.Prelude.{ℕ, min, cond}
-use Rattle.relation.specs.declared.fit.Fit.{Fit}
-use Rattle.relation.specs.declared.fit.Fit.TheVariants.{Fits, Counts}
 use Rattle.graph.specs.Counts.{counts_fit}
 use Rattle.relation.specs.Meaning.{Meaning, empty_store}
 use Rattle.quadtree.specs.Weights.{quad_weight}
-
-abbrev pub fit_answer : ℕ → ℕ → Fit
-fit_answer l n = cond (counts_fit l n) Fits Counts
 
 -- the pool's length, or 65,536 if that is less
 abbrev pub capacity_of : ℕ → ℕ

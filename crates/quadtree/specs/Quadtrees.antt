@@ -1,16 +1,21 @@
 -- What a quadtree means, that it is lawful, and what a put does to the blocks of its pool. Assumes nothing.
-use Rattle.std.specs.Prelude.{◌≡◌, ℕ, List, length, Ok, Result, ◌≢◌}
+use Rattle.std.specs.Prelude.{◌≡◌, ℕ, List, length, slice_index, Ok, Err, Result, ◌≢◌}
 use Rattle.std.proofs.Common.{ap, arith}
 use Rattle.std.proofs.lemmas.Bool.{and_parts}
 use Rattle.relation.specs.declared.answer.Grant.{Grant}
 use Rattle.relation.specs.declared.answer.Grant.TheVariants.{New}
 use Rattle.relation.specs.declared.answer.StoreFault.{StoreFault}
 use Rattle.relation.specs.Meaning.{Meaning, Lawful}
-use Rattle.graph.specs.Counts.{in_range?}
+use Rattle.graph.specs.declared.counts.RangeFault.{RangeFault}
+use Rattle.graph.specs.declared.triple.Triple.{Triple}
+use Rattle.graph.specs.Counts.{in_range?, Ranged, range_answer}
+use Rattle.graph.specs.Graph.{at}
 use Rattle.relation.proofs.Ranges.{range_places}
 use Rattle.quadtree.specs.declared.block.Block.{Block}
+use Rattle.quadtree.specs.declared.descent.Reached.{Reached}
 use Rattle.quadtree.specs.declared.quadtree.Quadtree.{Quadtree}
 use Rattle.quadtree.specs.Heights.{height_of}
+use Rattle.quadtree.specs.Links.{Ended}
 use Rattle.quadtree.specs.Pools.{links, Untouched}
 use Rattle.quadtree.specs.Trees.{holding}
 use Rattle.quadtree.specs.Monotone.{weight_mono}
@@ -18,16 +23,16 @@ use Rattle.quadtree.specs.Weights.{weight_of, quad_weight}
 
 -- the lent blocks
 abbrev pub blocks_of : Quadtree → List Block
-blocks_of q = q.pool.blocks.now
+blocks_of q = q.blocks.now
 
 abbrev pub quad_meaning : Quadtree → Meaning
 quad_meaning q =
     record {
-      labels = q.labels;
-      nodes = q.nodes;
+      labels = q.counts.labels;
+      nodes = q.counts.nodes;
       capacity = q.capacity;
-      weight = quad_weight q.labels q.nodes;
-      held = holding (links (blocks_of q)) q.pool.roots q.labels q.nodes q.height;
+      weight = quad_weight q.counts.labels q.counts.nodes;
+      held = holding (links (blocks_of q)) q.roots q.counts.labels q.counts.nodes q.height;
     }
 
 pub quad_lawful : (q : Quadtree) → Lawful (quad_meaning q)
@@ -35,16 +40,26 @@ quad_lawful q =
     record {
       few_labels = q.few.0;
       few_nodes = q.few.1;
-      ranged = λ a u v held. range_places q.labels q.nodes a u v (and_parts (in_range? q.labels q.nodes a u v) _ held).0;
-      monotone = weight_mono q.labels q.nodes (height_of q.nodes);
+      ranged = λ a u v held. range_places q.counts.labels q.counts.nodes a u v (and_parts (in_range? q.counts.labels q.counts.nodes a u v) _ held).0;
+      monotone = weight_mono q.counts.labels q.counts.nodes (height_of q.counts.nodes);
       bounded =
           omega (
             arith,
             q.room.0,
             q.weighed,
-            ap (λ h. weight_of q.labels q.nodes h (quad_meaning q).held) q.tall,
+            ap (λ h. weight_of q.counts.labels q.counts.nodes h (quad_meaning q).held) q.tall,
           );
     }
+
+-- the triple is in range, and the way down to its cell ends there
+pub record Way (q : Quadtree) (t : Triple) (end : Reached) : Type 0 where
+  pub range : Ranged q.counts.labels q.counts.nodes t.label t.from t.to
+  pub ended : Ended (links (blocks_of q)) (slice_index q.roots t.label) q.height t.from t.to end.link end.height
+
+-- where the way down to a triple's cell ends, or what of the triple is out of range
+abbrev pub Reaches : Quadtree → Triple → Result Reached RangeFault → Type 0
+Reaches q t (Ok end) = Way q t end
+Reaches q t (Err fault) = at (range_answer q.counts.labels q.counts.nodes) t ≡ Err fault
 
 -- what a put leaves of the blocks: as many as there were; those beyond the spent count as they were; and all of them, unless the triple was new
 pub record BlocksAfter (before after : List Block) (spent : ℕ) (answer : Result Grant StoreFault) : Type 0 where

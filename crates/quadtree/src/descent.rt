@@ -1,73 +1,32 @@
-//! The ways down a tree: to look a cell up, to count the blocks that are lacking, and to insert a cell. Each goes by recursion, and the height falls at each call.
+//! The ways down a tree: to see how far blocks stand on the way to a cell, and to insert one. Both go by recursion, and the height falls at each call.
 
-ghost use Rattle.std.specs.Prelude.{◌≡◌, ◌+◌, ◌-◌, ◌^◌, ◌<◌, ◌≤◌, length, slice_set};
-ghost use Rattle.quadtree.specs.Growth.{Tree, Linked, Opened, Grown};
-ghost use Rattle.quadtree.specs.Links.{quarter_of, cell, lacks};
+ghost use Rattle.std.specs.Prelude.{◌≡◌, ◌+◌, ◌<◌, ◌≤◌, length};
+ghost use Rattle.quadtree.specs.Growth.{Tree, Opened, Grown};
+ghost use Rattle.quadtree.specs.Links.{lacks, Ended};
+ghost use Rattle.quadtree.specs.Making.{capacity_of};
 ghost use Rattle.quadtree.specs.Pools.{links, Untouched};
 
 use crate::block::Block;
+use crate::cell::Cell;
 
-/// The quarter of a block of height `j` + 1 in which the cell (u, v) lies.
-fn quarter(j: u8, u: u16, v: u16) -> usize
-    requires { j < 16 }
-    ensures { (result ≡ quarter_of j u v) × (result < 4) }
-{
-    (2 * ((u >> j) % 2) + (v >> j) % 2) as usize
+/// Where the way down to a cell ends: the last link, and its height. The cell stands where the link is not 0, and as many blocks are lacking as the height says.
+#[derive(Clone, Copy)]
+pub(crate) struct Reached {
+    pub(crate) link: u32,
+    pub(crate) height: u8,
 }
 
-/// Whether the cell (u, v) stands below the link.
-pub(crate) fn find(blocks: &[Block], link: u32, height: u8, u: u16, v: u16) -> bool
+/// Goes down from the link towards the cell, as far as there are blocks.
+pub(crate) fn reach(blocks: &[Block], link: u32, height: u8, at: Cell) -> Reached
     requires low { height ≤ 16 }
     requires tree { Tree (links blocks.now) link height (length blocks.now) }
-    ensures { result ≡ cell (links blocks.now) link height u v }
+    ensures { Ended (links blocks.now) link height at.u at.v result.link result.height }
 {
-    if height == 0 {
-        return link > 0;
+    if link == 0 || height == 0 {
+        return Reached { link, height };
     }
-    if link == 0 {
-        return false;
-    }
-    let block = blocks[link as usize - 1];
-    let k = quarter(height - 1, u, v);
-    find(blocks, block.children[k], height - 1, u, v)
-}
-
-/// How many blocks an insertion of the cell (u, v) below the link takes.
-pub(crate) fn lacking(blocks: &[Block], link: u32, height: u8, u: u16, v: u16) -> u32
-    requires low { height ≤ 16 }
-    requires tree { Tree (links blocks.now) link height (length blocks.now) }
-    ensures { result ≡ lacks (links blocks.now) link height u v }
-{
-    if height == 0 {
-        return 0;
-    }
-    if link == 0 {
-        return height as u32;
-    }
-    let block = blocks[link as usize - 1];
-    let k = quarter(height - 1, u, v);
-    lacking(blocks, block.children[k], height - 1, u, v)
-}
-
-/// The quarters with x in quarter k.
-fn with_quarter(quarters: [u32; 4], k: usize, x: u32) -> [u32; 4]
-    requires { k < 4 }
-    ensures { (result ≡ slice_set quarters k x) × (length quarters ≡ 4) }
-{
-    let mut changed = quarters;
-    changed[k] = x;
-    changed
-}
-
-/// Writes x into quarter k of the block with index i.
-fn relink(blocks: &mut [Block], i: usize, k: usize, x: u32)
-    requires block { i < length blocks.old }
-    requires quarter { k < 4 }
-    ensures changed { Linked (links blocks.old) (links blocks.new) i k x }
-    ensures untouched { Untouched blocks.old blocks.new (i + 1) }
-{
-    let children = with_quarter(blocks[i].children, k, x);
-    blocks[i] = Block { children };
+    let below = blocks[link as usize - 1].children[at.quarter(height - 1)];
+    reach(blocks, below, height - 1, at)
 }
 
 /// A link, and how many blocks of the pool are taken.
@@ -78,47 +37,41 @@ pub(crate) struct Taken {
 }
 
 /// The link itself where it leads to a block; else that of the first block that is not taken, which is taken and cleared.
-fn open(blocks: &mut [Block], spent: u32, link: u32) -> Taken
-    requires few { spent < 2 ^ 32 - 1 }
-    requires room { link ≡ 0 → spent < length blocks.old }
+fn open(blocks: &mut [Block], taken: Taken) -> Taken
+    requires { taken.link ≡ 0 → taken.spent < capacity_of (length blocks.old) }
     ensures untouched { Untouched blocks.old blocks.new result.spent }
-    ensures opened { Opened (links blocks.old) (links blocks.new) link result.link spent result.spent }
+    ensures opened { Opened (links blocks.old) (links blocks.new) taken.link result.link taken.spent result.spent }
 {
-    if link > 0 {
-        return Taken { link, spent };
+    if taken.link > 0 {
+        return taken;
     }
-    blocks[spent as usize] = Block { children: [0; 4] };
+    blocks[taken.spent as usize] = Block { children: [0; 4] };
     Taken {
-        link: spent + 1,
-        spent: spent + 1,
+        link: taken.spent + 1,
+        spent: taken.spent + 1,
     }
 }
 
-/// Inserts the cell (u, v) below the link. Blocks are taken from the first on that is not taken.
-pub(crate) fn insert(
-    blocks: &mut [Block],
-    spent: u32,
-    link: u32,
-    height: u8,
-    u: u16,
-    v: u16,
-) -> Taken
+/// Inserts the cell below the link. Blocks are taken from the first on that is not taken.
+pub(crate) fn insert(blocks: &mut [Block], taken: Taken, height: u8, at: Cell) -> Taken
     requires low { height ≤ 16 }
-    requires room { spent + lacks (links blocks.old) link height u v ≤ length blocks.old }
-    requires few { spent + lacks (links blocks.old) link height u v ≤ 65536 }
-    requires tree { Tree (links blocks.old) link height spent }
+    requires room { taken.spent + lacks (links blocks.old) taken.link height at.u at.v ≤ capacity_of (length blocks.old) }
+    requires tree { Tree (links blocks.old) taken.link height taken.spent }
     ensures untouched { Untouched blocks.old blocks.new result.spent }
-    ensures grown { Grown (links blocks.old) (links blocks.new) link result.link spent result.spent height u v }
+    ensures grown { Grown (links blocks.old) (links blocks.new) taken.link result.link taken.spent result.spent height at.u at.v }
 {
     if height == 0 {
-        return Taken { link: 1, spent };
+        return Taken { link: 1, ..taken };
     }
-    let block = open(blocks, spent, link);
+    let block = open(blocks, taken);
     let i = block.link as usize - 1;
-    let k = quarter(height - 1, u, v);
-    let child = blocks[i].children[k];
-    let below = insert(blocks, block.spent, child, height - 1, u, v);
-    relink(blocks, i, k, below.link);
+    let k = at.quarter(height - 1);
+    let child = Taken {
+        link: blocks[i].children[k],
+        spent: block.spent,
+    };
+    let below = insert(blocks, child, height - 1, at);
+    blocks[i].set(k, below.link);
     Taken {
         link: block.link,
         spent: below.spent,

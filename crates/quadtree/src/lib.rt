@@ -3,9 +3,9 @@
 #![tactic(auto)]
 
 mod block;
+mod cell;
 mod descent;
 mod heights;
-mod pool;
 mod quadtree;
 
 pub use block::Block;

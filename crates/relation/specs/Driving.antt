@@ -1,6 +1,9 @@
 -- Which put of a script a store answers otherwise than expected, what it holds then, and what it has to say before and after each put. Assumes nothing.
 use Rattle.std.specs.Prelude.{◌≡◌, ℕ, ◌+◌, ◌≤◌, Bool, true, false, cond, List, [], ◌∷◌, Some, None, Ok, Err, Option, Result, ◌==◌}
 use Rattle.std.specs.Option.{option_map}
+use Rattle.graph.specs.declared.triple.Triple.{Triple}
+use Rattle.graph.specs.Counts.{counts}
+use Rattle.graph.specs.Graph.{at}
 use Rattle.relation.specs.declared.answer.Grant.{Grant}
 use Rattle.relation.specs.declared.answer.Grant.TheVariants.{Known, New}
 use Rattle.relation.specs.declared.answer.StoreFault.{StoreFault}
@@ -11,11 +14,11 @@ use Rattle.relation.specs.Meaning.{Meaning, held_size, held_weight, fits?, put_a
 
 -- the store after a put
 abbrev pub after_one : Meaning → Put → Meaning
-after_one m p = after_put m p.label p.from p.to
+after_one m p = at (after_put m) p.triple
 
 -- the store answers the put by the number of the expected answer
 abbrev pub as_expected : Meaning → Put → Bool
-as_expected m p = put_number (put_answer m p.label p.from p.to) == put_number p.expected
+as_expected m p = put_number (at (put_answer m) p.triple) == put_number p.expected
 
 -- the index of the first put that is not answered as expected
 abbrev pub first_wrong : Meaning → List Put → Option ℕ
@@ -28,14 +31,13 @@ driven m [] = m
 driven m (p ∷ ps) = cond (as_expected m p) (driven (after_one m p) ps) (after_one m p)
 
 -- what a store says of a triple and of itself
-abbrev pub seen : Meaning → ℕ → ℕ → ℕ → Seen
-seen m a u v = record {
-  has = m.held a u v;
-  fits = fits? m a u v;
+abbrev pub seen : Meaning → Triple → Seen
+seen m t = record {
+  has = at m.held t;
+  fits = at (fits? m) t;
   size = held_size m;
   spent = held_weight m;
-  labels = m.labels;
-  nodes = m.nodes;
+  counts = counts m.labels m.nodes;
   capacity = m.capacity;
 }
 
@@ -43,7 +45,7 @@ seen m a u v = record {
 abbrev pub GoesWith : Result Grant StoreFault → Seen → Seen → Type 0
 GoesWith (Ok New) s t =
     (s.has ≡ false) × (s.fits ≡ true) × (t.has ≡ true) × (t.size ≡ s.size + 1) × (s.spent ≤ t.spent)
-    × (t.labels ≡ s.labels) × (t.nodes ≡ s.nodes) × (t.capacity ≡ s.capacity)
+    × (t.counts ≡ s.counts) × (t.capacity ≡ s.capacity)
 GoesWith (Ok Known) s t = (s.has ≡ true) × (s.fits ≡ true) × (t ≡ s)
 GoesWith (Err fault) s t = (s.has ≡ false) × (s.fits ≡ false) × (t ≡ s)
 

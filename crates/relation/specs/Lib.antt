@@ -1,5 +1,4 @@
 pub mod Answers
-pub mod Fits
 pub mod Sets
 pub mod Meaning
 pub mod Driving

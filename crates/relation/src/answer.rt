@@ -1,9 +1,9 @@
 //! What a store answers to a triple that it is given.
 
 ghost use Rattle.std.specs.Prelude.{◌≡◌};
-ghost use Rattle.relation.specs.Answers.{grant_number, fault_refusal, fault_number, put_number};
+ghost use Rattle.relation.specs.Answers.{grant_number, fault_refusal, fault_number, range_fault};
 
-use graph::Refusal;
+use graph::{Numbered, RangeFault, Refusal};
 
 /// What a call says of what it takes: that it had it already, or that it did not.
 #[derive(Clone, Copy, Debug, PartialEq, Eq)]
@@ -14,11 +14,10 @@ pub enum Grant {
     New = 1,
 }
 
-impl Grant {
-    /// The number that stands for the answer.
-    pub fn number(self) -> u8
-        ensures { result ≡ grant_number self }
-    {
+impl Numbered for Grant {
+    ghost number_of = { grant_number };
+
+    fn number(self) -> u8 {
         self as u8
     }
 }
@@ -27,26 +26,29 @@ impl Grant {
 #[derive(Clone, Copy, Debug, PartialEq, Eq)]
 pub enum StoreFault {
     /// The label is out of range.
-    Label = 6,
+    Label,
     /// One of the nodes is out of range.
-    Node = 8,
+    Node,
     /// The held triples and this one would weigh more than the capacity.
-    Full = 9,
+    Full,
 }
 
-impl StoreFault {
-    /// The number that stands for the fault, which is that of its refusal.
-    pub fn number(self) -> u8
-        ensures { result ≡ fault_number self }
-    {
-        self as u8
-    }
+impl From<RangeFault> for StoreFault {
+    ghost from_gives = { λ r f. f ≡ range_fault r };
 
-    /// The refusal that the fault is.
-    pub fn refusal(self) -> Refusal
-        ensures { result ≡ fault_refusal self }
-    {
-        match self {
+    fn from(fault: RangeFault) -> Self {
+        match fault {
+            RangeFault::Label => StoreFault::Label,
+            RangeFault::Node => StoreFault::Node,
+        }
+    }
+}
+
+impl From<StoreFault> for Refusal {
+    ghost from_gives = { λ f r. r ≡ fault_refusal f };
+
+    fn from(fault: StoreFault) -> Self {
+        match fault {
             StoreFault::Label => Refusal::Label,
             StoreFault::Node => Refusal::Node,
             StoreFault::Full => Refusal::Full,
@@ -54,12 +56,11 @@ impl StoreFault {
     }
 }
 
-/// The number that stands for a store's answer to a triple: 1 for new, 0 for held already, else that of the refusal.
-pub fn answer_number(answer: Result<Grant, StoreFault>) -> u8
-    ensures { result ≡ put_number answer }
-{
-    match answer {
-        Ok(grant) => grant.number(),
-        Err(fault) => fault.number(),
+/// The number of a fault is that of its refusal.
+impl Numbered for StoreFault {
+    ghost number_of = { fault_number };
+
+    fn number(self) -> u8 {
+        Refusal::from(self).number()
     }
 }

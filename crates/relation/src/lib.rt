@@ -4,13 +4,11 @@
 
 mod answer;
 mod example;
-mod fit;
 mod script;
 mod store;
 
-pub use answer::{Grant, StoreFault, answer_number};
+pub use answer::{Grant, StoreFault};
 pub use example::MATCHED_PAIRS;
-pub use fit::{Fit, counts_fit};
 pub use script::{Put, drive};
 pub use store::Store;
 

@@ -1,20 +1,17 @@
 //! A routine that drives any store by a script of puts.
 
-ghost use Rattle.std.specs.Prelude.{◌≡◌, Decides};
+ghost use Rattle.std.specs.Prelude.{◌≡◌, ◌↔◌, IsTrue};
 ghost use Rattle.relation.specs.Driving.{seen, Consistent, as_expected, after_one, first_wrong, driven};
 
-use crate::answer::{Grant, StoreFault, answer_number};
+use crate::answer::{Grant, StoreFault};
 use crate::store::Store;
+use graph::{Counts, Numbered, Triple};
 
 /// One put of a script, and the answer that is expected of it.
 #[derive(Clone, Copy, Debug, PartialEq, Eq)]
 pub struct Put {
-    /// The label of the triple.
-    pub label: u8,
-    /// The node that it starts from.
-    pub from: u16,
-    /// The node that it goes to.
-    pub to: u16,
+    /// The triple that is put.
+    pub triple: Triple,
     /// What the store should answer.
     pub expected: Result<Grant, StoreFault>,
 }
@@ -26,29 +23,27 @@ struct Seen {
     fits: bool,
     size: u32,
     spent: u64,
-    labels: u8,
-    nodes: u16,
+    counts: Counts,
     capacity: u64,
 }
 
 /// Asks a store for all that it says of a triple and of itself.
-fn look<S: Store>(store: &S, label: u8, from: u16, to: u16) -> Seen
-    ensures { result ≡ seen (S.meaning store.now) label from to }
+fn look<S: Store>(store: &S, triple: Triple) -> Seen
+    ensures { result ≡ seen (S.meaning store.now) triple }
 {
     Seen {
-        has: store.has(label, from, to),
-        fits: store.fits(label, from, to),
+        has: store.has(triple),
+        fits: store.fits(triple),
         size: store.size(),
         spent: store.spent(),
-        labels: store.labels(),
-        nodes: store.nodes(),
+        counts: Counts::new(store.labels(), store.nodes()),
         capacity: store.capacity(),
     }
 }
 
 /// Whether what was seen before and after a put goes with its answer.
 fn consistent(before: &Seen, answer: Result<Grant, StoreFault>, after: &Seen) -> bool
-    ensures { Decides result (Consistent answer before.now after.now) }
+    ensures { IsTrue result ↔ Consistent answer before.now after.now }
 {
     let goes_with = match answer {
         Ok(Grant::New) => {
@@ -57,8 +52,7 @@ fn consistent(before: &Seen, answer: Result<Grant, StoreFault>, after: &Seen) ->
                 && after.has
                 && u64::from(after.size) == u64::from(before.size) + 1
                 && before.spent <= after.spent
-                && after.labels == before.labels
-                && after.nodes == before.nodes
+                && after.counts == before.counts
                 && after.capacity == before.capacity
         }
         Ok(Grant::Known) => before.has && before.fits && after == before,
@@ -72,16 +66,11 @@ fn agrees<S: Store>(store: &mut S, put: &Put) -> bool
     ensures answer { result ≡ as_expected (S.meaning store.old) put.now }
     ensures after { S.meaning store.new ≡ after_one (S.meaning store.old) put.now }
 {
-    let Put {
-        label,
-        from,
-        to,
-        expected,
-    } = *put;
-    let before = look(store, label, from, to);
-    let answer = store.put(label, from, to);
-    let after = look(store, label, from, to);
-    consistent(&before, answer, &after) && answer_number(answer) == answer_number(expected)
+    let Put { triple, expected } = *put;
+    let before = look(store, triple);
+    let answer = store.put(triple);
+    let after = look(store, triple);
+    consistent(&before, answer, &after) && answer.number() == expected.number()
 }
 
 /// Gives a store the puts of a script in order, and makes all its other calls before and after each. Stops at the first put whose answer is not the expected one, and answers its index, or `None`.

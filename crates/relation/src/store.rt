@@ -1,9 +1,11 @@
 //! The trait of all stores.
 
 ghost use Rattle.std.specs.Prelude.{◌≡◌};
+ghost use Rattle.graph.specs.Graph.{at};
 ghost use Rattle.relation.specs.Meaning.{Meaning, Lawful, held_size, held_weight, fits?, put_answer, after_put};
 
 use crate::answer::{Grant, StoreFault};
+use graph::Triple;
 
 /// A set of triples in range whose weight stays within a capacity. What a store means is one record, and every call is promised over it; only the set ever changes.
 pub trait Store {
@@ -33,15 +35,15 @@ pub trait Store {
         ensures { result ≡ (meaning self.now).capacity };
 
     /// Whether the triple is held.
-    fn has(&self, label: u8, from: u16, to: u16) -> bool
-        ensures { result ≡ (meaning self.now).held label from to };
+    fn has(&self, triple: Triple) -> bool
+        ensures { result ≡ at (meaning self.now).held triple };
 
     /// Whether the triple is in range, and the held triples together with it weigh no more than the capacity.
-    fn fits(&self, label: u8, from: u16, to: u16) -> bool
-        ensures { result ≡ fits? (meaning self.now) label from to };
+    fn fits(&self, triple: Triple) -> bool
+        ensures { result ≡ at (fits? (meaning self.now)) triple };
 
     /// Holds the triple from now on, and says whether that is new. Refuses with LABEL, NODE or FULL, in this order, and then holds what it held.
-    fn put(&mut self, label: u8, from: u16, to: u16) -> Result<Grant, StoreFault>
-        ensures answer { result ≡ put_answer (meaning self.old) label from to }
-        ensures after { meaning self.new ≡ after_put (meaning self.old) label from to };
+    fn put(&mut self, triple: Triple) -> Result<Grant, StoreFault>
+        ensures answer { result ≡ at (put_answer (meaning self.old)) triple }
+        ensures after { meaning self.new ≡ at (after_put (meaning self.old)) triple };
 }

@@ -1,7 +1,7 @@
 ghost use Rattle.relation.specs.KeepsNothing.{keeps_nothing, keeps_nothing_lawful};
 
 use super::*;
-use graph::Refusal;
+use graph::{Counts, Numbered, RangeFault, Refusal, Triple};
 
 /// A store of one label and one node that has no room for its one triple.
 #[derive(Drop)]
@@ -32,80 +32,57 @@ impl Store for KeepsNothing {
         0
     }
 
-    fn has(&self, _label: u8, _from: u16, _to: u16) -> bool {
+    fn has(&self, _triple: Triple) -> bool {
         false
     }
 
-    fn fits(&self, _label: u8, _from: u16, _to: u16) -> bool {
+    fn fits(&self, _triple: Triple) -> bool {
         false
     }
 
-    fn put(&mut self, label: u8, from: u16, to: u16) -> Result<Grant, StoreFault> {
-        if label > 0 {
-            Err(StoreFault::Label)
-        } else if from > 0 || to > 0 {
-            Err(StoreFault::Node)
-        } else {
-            Err(StoreFault::Full)
-        }
+    fn put(&mut self, triple: Triple) -> Result<Grant, StoreFault> {
+        Counts::new(1, 1).check(triple)?;
+        Err(StoreFault::Full)
     }
 }
 
+/// The put of the triple of a label and two nodes.
 fn put(label: u8, from: u16, to: u16, expected: Result<Grant, StoreFault>) -> Put {
     Put {
-        label,
-        from,
-        to,
+        triple: Triple::new(label, from, to),
         expected,
     }
 }
 
 #[test]
 fn numbers_the_answers(rt: HostRuntime) {
-    assert_eq!(rt; [Grant::Known.number(), Grant::New.number()], [0, 1]);
-    assert_eq!(rt;
-        [
-            StoreFault::Label.number(),
-            StoreFault::Node.number(),
-            StoreFault::Full.number(),
-        ],
-        [6, 8, 9]
-    );
-    assert_eq!(rt;
-        [
-            answer_number(Ok(Grant::Known)),
-            answer_number(Ok(Grant::New)),
-            answer_number(Err(StoreFault::Label)),
-            answer_number(Err(StoreFault::Node)),
-            answer_number(Err(StoreFault::Full)),
-        ],
-        [0, 1, 6, 8, 9]
-    );
-    assert_eq!(rt;
-        [
-            Fit::Fits.number(),
-            Fit::Counts.number(),
-            Fit::Memory.number(),
-        ],
-        [0, 1, 2]
-    );
+    let granted = [(Grant::Known, 0), (Grant::New, 1)];
+    for (grant, number) in granted {
+        let answer: Result<Grant, StoreFault> = Ok(grant);
+        assert_eq!(rt; (grant.number(), answer.number()), (number, number));
+    }
+    let refused = [
+        (StoreFault::Label, 6),
+        (StoreFault::Node, 8),
+        (StoreFault::Full, 9),
+    ];
+    for (fault, number) in refused {
+        let answer: Result<Grant, StoreFault> = Err(fault);
+        assert_eq!(rt; (fault.number(), answer.number()), (number, number));
+    }
 }
 
 #[test]
 fn names_the_refusals(rt: HostRuntime) {
-    assert_eq!(rt; StoreFault::Label.refusal(), Refusal::Label);
-    assert_eq!(rt; StoreFault::Node.refusal(), Refusal::Node);
-    assert_eq!(rt; StoreFault::Full.refusal(), Refusal::Full);
+    assert_eq!(rt; Refusal::from(StoreFault::Label), Refusal::Label);
+    assert_eq!(rt; Refusal::from(StoreFault::Node), Refusal::Node);
+    assert_eq!(rt; Refusal::from(StoreFault::Full), Refusal::Full);
 }
 
 #[test]
-fn counts_fit_from_one_on(rt: HostRuntime) {
-    assert!(rt; counts_fit(1, 1));
-    assert!(rt; !counts_fit(0, 1));
-    assert!(rt; !counts_fit(1, 0));
-    assert!(rt; counts_fit(64, 1024));
-    assert!(rt; !counts_fit(65, 1024));
-    assert!(rt; !counts_fit(64, 1025));
+fn tells_what_is_out_of_range(rt: HostRuntime) {
+    assert_eq!(rt; StoreFault::from(RangeFault::Label), StoreFault::Label);
+    assert_eq!(rt; StoreFault::from(RangeFault::Node), StoreFault::Node);
 }
 
 #[test]

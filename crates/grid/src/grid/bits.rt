@@ -2,20 +2,20 @@
 
 ghost use Rattle.std.specs.Prelude.{◌≡◌, ◌*◌, ◌<◌, length};
 ghost use Rattle.grid.specs.Bits.{bit};
-ghost use Rattle.grid.specs.Grids.{Placed};
+ghost use Rattle.grid.specs.Grids.{Places};
 
 use super::Grid;
+use graph::{RangeFault, Triple};
 
 impl Grid<'_> {
-    /// The bit of a triple in range.
-    pub(super) fn place(&self, label: u8, from: u16, to: u16) -> usize
-        requires label { label < self.now.labels }
-        requires from { from < self.now.nodes }
-        requires to { to < self.now.nodes }
-        ensures { Placed self.now label from to result }
+    /// The bit of a triple, or what of the triple is out of range.
+    pub(super) fn place(&self, triple: Triple) -> Result<usize, RangeFault>
+        ensures { Places self.now triple result }
     {
-        let n = self.nodes as usize;
-        (label as usize * n + from as usize) * n + to as usize
+        self.counts.check(triple)?;
+        let nodes = usize::from(self.counts.nodes);
+        let row = usize::from(triple.label) * nodes + usize::from(triple.from);
+        Ok(row * nodes + usize::from(triple.to))
     }
 
     /// Whether a bit is set.

@@ -5,49 +5,47 @@ ghost use Rattle.grid.specs.Layout.{fit_answer, words_for, cleared};
 ghost use Rattle.grid.specs.Grids.{grid_meaning, made};
 
 use super::Grid;
-use relation::{Fit, counts_fit};
+use graph::{Counts, FitFault};
 
 impl<'a> Grid<'a> {
     /// Whether a grid of so many labels and nodes can be made in `words` words. Refuses counts out of range with COUNTS, then words that have fewer bits than there are triples with MEMORY.
-    pub fn fit(labels: u8, nodes: u16, words: usize) -> Fit
-        ensures { result ≡ fit_answer labels nodes words }
+    pub fn fit(counts: Counts, words: usize) -> Result<(), FitFault>
+        ensures { result ≡ fit_answer counts.labels counts.nodes words }
     {
-        if !counts_fit(labels, nodes) {
-            return Fit::Counts;
+        counts.fit()?;
+        if words < words_for(counts) {
+            return Err(FitFault::Memory);
         }
-        if words < words_for(labels, nodes) {
-            return Fit::Memory;
-        }
-        Fit::Fits
+        Ok(())
     }
 
     /// An empty grid. Clears just as many words as its triples need, and leaves the others as they were. Where `fit` refuses, the grid has no labels and no nodes, and all words stay as they were.
-    pub fn new(words: &'a mut [u64], labels: u8, nodes: u16) -> Grid<'a>
+    pub fn new(words: &'a mut [u64], counts: Counts) -> Grid<'a>
         ensures lent { result.words.ghost_name ≡ words.entry.ghost_name }
-        ensures memory { result.words.now ≡ cleared labels nodes words.old }
-        ensures means { grid_meaning result ≡ made labels nodes (length words.old) }
+        ensures memory { result.words.now ≡ cleared counts.labels counts.nodes words.old }
+        ensures means { grid_meaning result ≡ made counts.labels counts.nodes (length words.old) }
     {
-        let Fit::Fits = Grid::fit(labels, nodes, words.len()) else {
+        let Ok(()) = Grid::fit(counts, words.len()) else {
+            let counts = Counts::new(0, 0);
             return Grid {
                 words,
-                labels: 0,
-                nodes: 0,
+                counts,
                 size: 0,
             };
         };
-        words[0..words_for(labels, nodes)].fill(0);
+        words[..words_for(counts)].fill(0);
         Grid {
             words,
-            labels,
-            nodes,
+            counts,
             size: 0,
         }
     }
 }
 
 /// The fewest words that have a bit for each triple.
-fn words_for(labels: u8, nodes: u16) -> usize
-    ensures { result ≡ words_for labels nodes }
+fn words_for(counts: Counts) -> usize
+    ensures { result ≡ words_for counts.labels counts.nodes }
 {
-    (labels as usize * nodes as usize * nodes as usize).div_ceil(64)
+    let nodes = usize::from(counts.nodes);
+    (usize::from(counts.labels) * nodes * nodes).div_ceil(64)
 }

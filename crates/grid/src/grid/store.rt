@@ -1,11 +1,13 @@
 //! A grid as a store.
 
 ghost use Rattle.std.specs.Prelude.{◌≡◌};
+ghost use Rattle.graph.specs.Graph.{at};
 ghost use Rattle.relation.specs.Meaning.{put_answer, after_put};
 ghost use Rattle.grid.specs.Bits.{words_after_put};
 ghost use Rattle.grid.specs.Grids.{grid_meaning, grid_lawful};
 
 use super::Grid;
+use graph::Triple;
 use relation::{Grant, Store, StoreFault};
 
 impl Store for Grid<'_> {
@@ -14,11 +16,11 @@ impl Store for Grid<'_> {
     ghost lawful = { grid_lawful };
 
     fn labels(&self) -> u8 {
-        self.labels
+        self.counts.labels
     }
 
     fn nodes(&self) -> u16 {
-        self.nodes
+        self.counts.nodes
     }
 
     fn size(&self) -> u32 {
@@ -33,27 +35,24 @@ impl Store for Grid<'_> {
         0
     }
 
-    fn has(&self, label: u8, from: u16, to: u16) -> bool {
-        self.fits(label, from, to) && self.is_set(self.place(label, from, to))
+    fn has(&self, triple: Triple) -> bool {
+        let Ok(at) = self.place(triple) else {
+            return false;
+        };
+        self.is_set(at)
     }
 
-    fn fits(&self, label: u8, from: u16, to: u16) -> bool {
-        label < self.labels && from < self.nodes && to < self.nodes
+    fn fits(&self, triple: Triple) -> bool {
+        self.counts.covers(triple)
     }
 
-    fn put(&mut self, label: u8, from: u16, to: u16) -> Result<Grant, StoreFault>
-        ensures answer { result ≡ put_answer (grid_meaning self.old) label from to }
-        ensures after { grid_meaning self.new ≡ after_put (grid_meaning self.old) label from to }
-        ensures memory { self.new.words.now ≡ words_after_put self.old.words.now self.old.labels self.old.nodes label from to }
+    fn put(&mut self, triple: Triple) -> Result<Grant, StoreFault>
+        ensures answer { result ≡ at (put_answer (grid_meaning self.old)) triple }
+        ensures after { grid_meaning self.new ≡ at (after_put (grid_meaning self.old)) triple }
+        ensures memory { self.new.words.now ≡ at (words_after_put self.old.words.now self.old.counts.labels self.old.counts.nodes) triple }
         ensures lent { self.new.words.ghost_name ≡ self.old.words.ghost_name }
     {
-        if label >= self.labels {
-            return Err(StoreFault::Label);
-        }
-        if from >= self.nodes || to >= self.nodes {
-            return Err(StoreFault::Node);
-        }
-        let at = self.place(label, from, to);
+        let at = self.place(triple)?;
         if self.is_set(at) {
             return Ok(Grant::Known);
         }

@@ -1,47 +1,35 @@
-use Rattle.std.proofs.Common.{◌+◌, ◌-◌, ◌∙◌, arith}
-use Rattle.quadtree.specs.Pools.{links}
-use Rattle.quadtree.proofs.Below.{lacks_fresh}
+use Rattle.std.proofs.Common.{◌-◌, ◌∙◌, arith}
+use Rattle.std.proofs.lemmas.List.{drop-set-lt}
 use Rattle.quadtree.proofs.Growing.{ready, grown}
-use Rattle.quadtree.proofs.Relinked.{untouched_later}
+use Rattle.quadtree.proofs.Relinked.{untouched_later, linked_set}
 use Rattle.quadtree.proofs.descent.+insert.Goals as goal
-
-pub open-block-requires : goal.open-block-requires
-open-block-requires t c =
-    record {
-      few = omega (arith, c.requires.few);
-      room = λ e. omega (arith, c.requires.room, lacks_fresh (links c.args.blocks.now) c.args.link c.args.height c.args.u c.args.v (omega arith) e);
-    }
 
 pub bounds-blocks-i : goal.bounds-blocks-i
 bounds-blocks-i t c =
-    let r = ready c.args.height c.quarter-k.result c.args.u c.args.v (omega arith) c.quarter-k.ensures.0 c.requires.tree c.open-block.ensures.opened in
-    omega (arith, r.some, r.block, r.room, c.requires.room, c.open-block.auto.blocks)
+    let r = ready _ _ _ _ (omega arith) c.quarter-k.ensures.is c.requires.tree c.open-block.ensures.opened in
+    omega arith
 
 pub insert-below-requires : goal.insert-below-requires
 insert-below-requires t c =
-    let r = ready c.args.height c.quarter-k.result c.args.u c.args.v (omega arith) c.quarter-k.ensures.0 c.requires.tree c.open-block.ensures.opened in
-    (omega arith, (omega arith, (omega (arith, r.room, c.requires.room, c.open-block.auto.blocks), (omega (arith, r.room, c.requires.few), r.tree))))
+    let r = ready _ _ _ _ (omega arith) c.quarter-k.ensures.is c.requires.tree c.open-block.ensures.opened in
+    (omega arith, (omega arith, (omega arith, r.tree)))
 
-pub relink-requires : goal.relink-requires
-relink-requires t c =
-    let r = ready c.args.height c.quarter-k.result c.args.u c.args.v (omega arith) c.quarter-k.ensures.0 c.requires.tree c.open-block.ensures.opened in
-    record {
-      block = omega (arith, r.some, r.block, r.room, c.requires.room, c.open-block.auto.blocks, c.insert-below.auto.blocks);
-      quarter = c.quarter-k.ensures.1;
-    }
+pub bounds-blocks-i-2 : goal.bounds-blocks-i-2
+bounds-blocks-i-2 t c =
+    let r = ready _ _ _ _ (omega arith) c.quarter-k.ensures.is c.requires.tree c.open-block.ensures.opened in
+    omega arith
 
-pub returns : goal.returns
-returns t c =
-    let r = ready c.args.height c.quarter-k.result c.args.u c.args.v (omega arith) c.quarter-k.ensures.0 c.requires.tree c.open-block.ensures.opened in
+pub returns-clause-untouched : goal.returns-clause-untouched
+returns-clause-untouched t c =
+    let r = ready _ _ _ _ (omega arith) c.quarter-k.ensures.is c.requires.tree c.open-block.ensures.opened in
     let up = c.insert-below.ensures.grown.spent in
-    record {
-      untouched =
-          untouched_later c.insert-below.new.blocks c.relink.new.blocks (c.open-block.result.link - 1 + 1) c.insert-below.result.spent
-          (omega (arith, r.some, r.block, up)) c.relink.ensures.untouched
-          ∙ c.insert-below.ensures.untouched
-          ∙ untouched_later c.args.blocks.now c.open-block.new.blocks c.open-block.result.spent c.insert-below.result.spent
-          (omega (arith, up)) c.open-block.ensures.untouched;
-      grown =
-          grown c.args.height c.quarter-k.result c.args.u c.args.v (omega arith) c.quarter-k.ensures.0 c.requires.tree
-          c.open-block.ensures.opened c.insert-below.ensures.grown c.relink.ensures.changed;
-    }
+    drop-set-lt c.insert-below.result.spent c.insert-below.new.blocks (c.open-block.result.link - 1) c.set.new.self (omega arith)
+    ∙ c.insert-below.ensures.untouched
+    ∙ untouched_later c.args.blocks.now c.open-block.new.blocks c.open-block.result.spent c.insert-below.result.spent (omega arith)
+    c.open-block.ensures.untouched
+
+pub returns-clause-grown : goal.returns-clause-grown
+returns-clause-grown t c =
+    let r = ready _ _ _ _ (omega arith) c.quarter-k.ensures.is c.requires.tree c.open-block.ensures.opened in
+    grown _ _ _ _ (omega arith) c.quarter-k.ensures.is c.requires.tree c.open-block.ensures.opened c.insert-below.ensures.grown
+    (linked_set _ _ _ _ _ (omega arith) c.quarter-k.ensures.of_four c.set.ensures.written c.set.ensures.four)

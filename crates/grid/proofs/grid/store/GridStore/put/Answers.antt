@@ -6,19 +6,19 @@ use Rattle.grid.proofs.grid.store.GridStore.put.Goals as goal
 
 pub returns-then-is_set : goal.returns-then-is_set
 returns-then-is_set c =
-    let p = c.place-at.ensures in
+    let p = c.in_ok-at.ensures in
     let known = sym c.if-is_set.ensures in
     record { answer = sym (taken_answer p true known); after = known_after p known; memory = known_memory p known; lent = refl }
 
 pub overflow_add-self : goal.overflow_add-self
-overflow_add-self c = omega (arith, new_small c.place-at.ensures (sym c.if-is_set.ensures))
+overflow_add-self c = omega (arith, new_small c.in_ok-at.ensures (sym c.if-is_set.ensures))
 
 pub invariant_of-self : goal.invariant_of-self
 invariant_of-self c =
-    let p = c.place-at.ensures in
+    let p = c.in_ok-at.ensures in
     record { few = c.args.self.now.few; room = new_room p; counted = new_counted p (sym c.if-is_set.ensures) }
 
 pub returns : goal.returns
 returns c =
-    let p = c.place-at.ensures in
+    let p = c.in_ok-at.ensures in
     record { answer = sym (taken_answer p false (sym c.if-is_set.ensures)); after = new_after p; memory = new_memory p; lent = refl }

@@ -1,0 +1,22 @@
+//! Cells, of which the trees say whether they stand.
+
+ghost use Rattle.std.specs.Prelude.{◌≡◌, ◌<◌};
+ghost use Rattle.quadtree.specs.Links.{quarter_of};
+
+/// The cell of a pair of nodes, (u, v).
+#[derive(Clone, Copy)]
+pub(crate) struct Cell {
+    pub(crate) u: u16,
+    pub(crate) v: u16,
+}
+
+impl Cell {
+    /// The quarter of a block of height `j` + 1 in which the cell lies.
+    pub(crate) fn quarter(self, j: u8) -> usize
+        requires { j < 16 }
+        ensures is { result ≡ quarter_of j self.u self.v }
+        ensures of_four { result < 4 }
+    {
+        usize::from(2 * ((self.u >> j) % 2) + (self.v >> j) % 2)
+    }
+}
