@@ -44,14 +44,7 @@ impl Counts {
         }
     }
 
-    /// Whether the label and the nodes of a triple are in range.
-    pub fn covers(self, triple: Triple) -> bool
-        ensures { result ≡ at (in_range? self.labels self.nodes) triple }
-    {
-        triple.label < self.labels && triple.from < self.nodes && triple.to < self.nodes
-    }
-
-    /// The same, and which of them is not. The label comes first.
+    /// Whether the label and the nodes of a triple are in range, or which of them is not. The label comes first.
     pub fn check(self, triple: Triple) -> Result<(), RangeFault>
         ensures { result ≡ at (range_answer self.labels self.nodes) triple }
     {
@@ -62,6 +55,13 @@ impl Counts {
             return Err(RangeFault::Node);
         }
         Ok(())
+    }
+
+    /// Whether the label and the nodes of a triple are in range.
+    pub fn covers(self, triple: Triple) -> bool
+        ensures { result ≡ at (in_range? self.labels self.nodes) triple }
+    {
+        self.check(triple).is_ok()
     }
 }
 

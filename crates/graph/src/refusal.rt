@@ -33,6 +33,7 @@ impl Numbered for Refusal {
     ghost number_of = { refusal_number };
 
     fn number(self) -> u8 {
+        // `as` is the way to the number that a case is declared with.
         self as u8
     }
 }

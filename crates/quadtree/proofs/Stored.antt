@@ -1,6 +1,6 @@
 -- What the facts in a quadtree's type give for the calls of a store.
 -- Assumes nothing.
-use Rattle.std.proofs.Common.{◌≡◌, ℕ, ◌+◌, ◌^◌, ◌<◌, ◌≤◌, true, false, leb, ◌&&◌, ltb, ◌≢◌, List, length, get_or, set, Ok, Err, sym, ap, ◌∙◌, subst, arith}
+use Rattle.std.proofs.Common.{◌≡◌, ℕ, ◌+◌, ◌^◌, ◌<◌, ◌≤◌, Bool, true, false, cond, leb, ◌&&◌, ◌≢◌, List, length, get_or, set, Some, None, Ok, Err, Option, unwrap_or, refl, sym, ap, ◌∙◌, subst, arith}
 use Rattle.std.proofs.lemmas.Bool.{leb-true, lt-ltb}
 use Rattle.std.proofs.lemmas.List.{get_or-set_same, get_or-set_other}
 use Rattle.graph.specs.Graph.{Triples}
@@ -13,7 +13,7 @@ use Rattle.relation.proofs.Puts.{fits_in_range, light_known, answer_taken, after
 use Rattle.relation.proofs.Ranges.{range_tested}
 use Rattle.quadtree.specs.declared.quadtree.Quadtree.{Quadtree}
 use Rattle.quadtree.specs.Growth.{Tree, Grown}
-use Rattle.quadtree.specs.Links.{Links, cell, Ended}
+use Rattle.quadtree.specs.Links.{Links, cell, lacks, lacking}
 use Rattle.quadtree.specs.Pools.{links}
 use Rattle.quadtree.specs.Quadtrees.{blocks_of, quad_meaning, quad_lawful}
 use Rattle.quadtree.specs.Trees.{holding}
@@ -47,32 +47,39 @@ pub record Inserted (q : Quadtree) (a u v : ℕ) (ch' : Links) (roots' : List �
   pub room : s' ≤ q.capacity
   pub after : with_held (quad_meaning q) (holding ch' roots' q.counts.labels q.counts.nodes q.height) ≡ after_put (quad_meaning q) a u v
 
--- The triple is in range, and the way down to its cell ends at the link l and the height j.
-module _ (q : Quadtree) {a u v l j : ℕ} (end : Ended (ch q) (get_or q.roots a 0) q.height u v l j) (r : Ranged q.counts.labels q.counts.nodes a u v) where
+none_told : (b : Bool) (n : ℕ) → None ≡ cond b None (Some n) → b ≡ true
+none_told true n e = refl
+none_told false n e = cc
+
+some_told : (b : Bool) (n k : ℕ) → Some k ≡ cond b None (Some n) → (b ≡ false) × (k ≡ n)
+some_told true n k e = cc
+some_told false n k e = (refl, ap (λ o. unwrap_or o 0) e)
+
+-- A triple in range.
+module _ (q : Quadtree) {a u v : ℕ} (r : Ranged q.counts.labels q.counts.nodes a u v) where
   abbrev root : ℕ
   root = get_or q.roots a 0
 
-  -- it is held where that link is not 0
-  held_is : (quad_meaning q).held a u v ≡ ltb 0 l
-  held_is = ap (λ t. t && cell (ch q) root q.height u v) (range_tested q.counts.labels q.counts.nodes a u v r) ∙ sym end.stands
+  -- how many blocks are lacking for it, or none where it is held
+  abbrev lacking_is : Option ℕ
+  lacking_is = lacking (ch q) root q.height u v
 
-  -- and light enough where the blocks that it lacks are there
-  light_is : light? (quad_meaning q) a u v ≡ leb (q.spent + j) q.capacity
+  held_is : (quad_meaning q).held a u v ≡ cell (ch q) root q.height u v
+  held_is = ap (λ t. t && cell (ch q) root q.height u v) (range_tested q.counts.labels q.counts.nodes a u v r)
+
+  -- it is light enough where the blocks that it lacks are there
+  light_is : light? (quad_meaning q) a u v ≡ leb (q.spent + lacks (ch q) root q.height u v) q.capacity
   light_is =
       ap (λ w. leb w q.capacity)
       (weight_is q (with_triple (quad_meaning q).held a u v)
-      ∙ weight_lacking (ch q) q.roots q.counts.labels q.counts.nodes q.height q.spent q.size a u v (wide q) r (sound q)
-      ∙ ap (λ n. q.spent + n) (sym end.lacking))
-
-  pub fits_is : fits? (quad_meaning q) a u v ≡ leb (q.spent + j) q.capacity
-  fits_is = fits_in_range (quad_meaning q) a u v r ∙ light_is
+      ∙ weight_lacking (ch q) q.roots q.counts.labels q.counts.nodes q.height q.spent q.size a u v (wide q) r (sound q))
 
   -- A put of a triple that is held says so, and changes nothing.
-  module _ (some : 0 < l) where
+  module _ (none : None ≡ lacking_is) where
     held : (quad_meaning q).held a u v ≡ true
-    held = held_is ∙ lt-ltb 0 l some
+    held = held_is ∙ none_told _ _ none
 
-    held_fits : fits? (quad_meaning q) a u v ≡ true
+    pub held_fits : fits? (quad_meaning q) a u v ≡ true
     held_fits = fits_in_range (quad_meaning q) a u v r ∙ light_known (quad_meaning q) a u v (quad_lawful q).bounded held
 
     pub known_answer : Ok Known ≡ put_answer (quad_meaning q) a u v
@@ -81,42 +88,53 @@ module _ (q : Quadtree) {a u v l j : ℕ} (end : Ended (ch q) (get_or q.roots a 
     pub known_after : quad_meaning q ≡ after_put (quad_meaning q) a u v
     known_after = sym (after_known (quad_meaning q) a u v held_fits held)
 
-  -- So does one of a triple that lacks more blocks than are left.
-  module _ (full : false ≡ leb (q.spent + j) q.capacity) where
-    pub full_answer : Err Full ≡ put_answer (quad_meaning q) a u v
-    full_answer = simp (lt-ltb a q.counts.labels r.label, lt-ltb u q.counts.nodes r.from, lt-ltb v q.counts.nodes r.to, light_is, sym full)
-
-    pub full_after : quad_meaning q ≡ after_put (quad_meaning q) a u v
-    full_after = sym (after_refused (quad_meaning q) a u v (fits_is ∙ sym full))
-
-  -- One of a new triple whose blocks are there says that it is new, and makes the trees grow by it.
-  module _ (none : l ≡ 0) (room : true ≡ leb (q.spent + j) q.capacity) where
-    fits : fits? (quad_meaning q) a u v ≡ true
-    fits = fits_is ∙ sym room
-
+  -- Of one that is not, k blocks are lacking.
+  module _ {k : ℕ} (some : Some k ≡ lacking_is) where
     new : (quad_meaning q).held a u v ≡ false
-    new = held_is ∙ ap (ltb 0) none
+    new = held_is ∙ (some_told _ _ k some).0
 
-    pub new_answer : Ok New ≡ put_answer (quad_meaning q) a u v
-    new_answer = sym (answer_taken (quad_meaning q) a u v fits false new)
+    k_is : k ≡ lacks (ch q) root q.height u v
+    k_is = (some_told _ _ k some).1
 
-    module _ {i x s' : ℕ} {ch' : Links} (place : i ≡ a) (rooted : i < length q.roots)
-        (grown : Grown (ch q) ch' (get_or q.roots i 0) x q.spent s' q.height u v) where
-      abbrev roots' : List ℕ
-      roots' = set q.roots i x
+    light_with : light? (quad_meaning q) a u v ≡ leb (q.spent + k) q.capacity
+    light_with = light_is ∙ ap (λ n. leb (q.spent + n) q.capacity) (sym k_is)
 
-      grown_here : Grown (ch q) ch' root (get_or roots' a 0) q.spent s' q.height u v
-      grown_here = subst (λ k. Grown (ch q) ch' (get_or q.roots k 0) (get_or roots' k 0) q.spent s' q.height u v) place (rw get_or-set_same grown)
+    pub fits_is : fits? (quad_meaning q) a u v ≡ leb (q.spent + k) q.capacity
+    fits_is = fits_in_range (quad_meaning q) a u v r ∙ light_with
 
-      others : (b : ℕ) → b ≢ a → get_or roots' b 0 ≡ get_or q.roots b 0
-      others b ne = get_or-set_other q.roots i b x 0 (omega arith)
+    -- Where they are more than are left, a put is refused and changes nothing.
+    module _ (full : false ≡ leb (q.spent + k) q.capacity) where
+      pub full_answer : Err Full ≡ put_answer (quad_meaning q) a u v
+      full_answer = simp (lt-ltb a q.counts.labels r.label, lt-ltb u q.counts.nodes r.from, lt-ltb v q.counts.nodes r.to, light_with, sym full)
 
-      pub inserted : Inserted q a u v ch' roots' s'
-      inserted =
-          let s = sound_grown (ch q) q.roots q.counts.labels q.counts.nodes q.height q.spent q.size a u v (wide q) r (sound q) ch' roots' s' grown_here others new in
-          let joins = holding_with (ch q) q.roots q.counts.labels q.counts.nodes q.height q.spent q.size a u v (wide q) r (sound q) ch' roots' s' grown_here others in
-          record {
-            sound = s;
-            room = omega (arith, leb-true (q.spent + j) q.capacity (sym room), grown_here.spent, end.lacking);
-            after = ap (with_held (quad_meaning q)) joins ∙ sym (after_taken (quad_meaning q) a u v fits);
-          }
+      pub full_after : quad_meaning q ≡ after_put (quad_meaning q) a u v
+      full_after = sym (after_refused (quad_meaning q) a u v (fits_is ∙ sym full))
+
+    -- Else it says that the triple is new, and makes the trees grow by it.
+    module _ (room : true ≡ leb (q.spent + k) q.capacity) where
+      fits : fits? (quad_meaning q) a u v ≡ true
+      fits = fits_is ∙ sym room
+
+      pub new_answer : Ok New ≡ put_answer (quad_meaning q) a u v
+      new_answer = sym (answer_taken (quad_meaning q) a u v fits false new)
+
+      module _ {i x s' : ℕ} {ch' : Links} (place : i ≡ a) (rooted : i < length q.roots)
+          (grown : Grown (ch q) ch' (get_or q.roots i 0) x q.spent s' q.height u v) where
+        abbrev roots' : List ℕ
+        roots' = set q.roots i x
+
+        grown_here : Grown (ch q) ch' root (get_or roots' a 0) q.spent s' q.height u v
+        grown_here = subst (λ k. Grown (ch q) ch' (get_or q.roots k 0) (get_or roots' k 0) q.spent s' q.height u v) place (rw get_or-set_same grown)
+
+        others : (b : ℕ) → b ≢ a → get_or roots' b 0 ≡ get_or q.roots b 0
+        others b ne = get_or-set_other q.roots i b x 0 (omega arith)
+
+        pub inserted : Inserted q a u v ch' roots' s'
+        inserted =
+            let s = sound_grown (ch q) q.roots q.counts.labels q.counts.nodes q.height q.spent q.size a u v (wide q) r (sound q) ch' roots' s' grown_here others new in
+            let joins = holding_with (ch q) q.roots q.counts.labels q.counts.nodes q.height q.spent q.size a u v (wide q) r (sound q) ch' roots' s' grown_here others in
+            record {
+              sound = s;
+              room = omega (arith, leb-true (q.spent + k) q.capacity (sym room), grown_here.spent, k_is);
+              after = ap (with_held (quad_meaning q)) joins ∙ sym (after_taken (quad_meaning q) a u v fits);
+            }

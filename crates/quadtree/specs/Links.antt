@@ -1,5 +1,5 @@
 -- Trees of blocks, over a function that gives the link in each quarter of each block. A link is 0, or the index of a block plus 1; below a block of height 1 a link that is not 0 is a single cell. Assumes nothing.
-use Rattle.std.specs.Prelude.{◌≡◌, ℕ, zero, suc, ◌+◌, ◌*◌, ◌/◌, ◌%◌, ◌^◌, Bool, true, ◌&&◌, ◌==◌, nat_lt}
+use Rattle.std.specs.Prelude.{ℕ, zero, suc, ◌+◌, ◌*◌, ◌/◌, ◌%◌, ◌^◌, Bool, true, cond, ◌&&◌, Some, None, Option, ◌==◌, nat_lt}
 use Rattle.relation.specs.Sets.{one, sum_below}
 
 -- the link in quarter k of the block with index i
@@ -25,10 +25,9 @@ abbrev pub lacks : Links → ℕ → ℕ → ℕ → ℕ → ℕ
 lacks ch l zero u v = 0
 lacks ch l (suc j) u v = one (l == 0) + lacks ch (down ch l (quarter_of j u v)) j u v
 
--- where the way down to the cell (u, v) ends, at the link l' of height j': the cell stands where that link is not 0, and as many blocks are lacking as that height says
-pub record Ended (ch : Links) (l j u v l' j' : ℕ) : Type 0 where
-  pub stands : nat_lt 0 l' ≡ cell ch l j u v
-  pub lacking : j' ≡ lacks ch l j u v
+-- the same, or none where the cell stands
+abbrev pub lacking : Links → ℕ → ℕ → ℕ → ℕ → Option ℕ
+lacking ch l j u v = cond (cell ch l j u v) None (Some (lacks ch l j u v))
 
 -- how often the block with index b stands below the link l of height j
 abbrev pub visits : Links → ℕ → ℕ → ℕ → ℕ

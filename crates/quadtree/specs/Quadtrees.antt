@@ -1,5 +1,5 @@
 -- What a quadtree means, that it is lawful, and what a put does to the blocks of its pool. Assumes nothing.
-use Rattle.std.specs.Prelude.{◌≡◌, ℕ, List, length, slice_index, Ok, Err, Result, ◌≢◌}
+use Rattle.std.specs.Prelude.{◌≡◌, ℕ, List, length, slice_index, Ok, Err, Option, Result, ◌≢◌}
 use Rattle.std.proofs.Common.{ap, arith}
 use Rattle.std.proofs.lemmas.Bool.{and_parts}
 use Rattle.relation.specs.declared.answer.Grant.{Grant}
@@ -12,10 +12,9 @@ use Rattle.graph.specs.Counts.{in_range?, Ranged, range_answer}
 use Rattle.graph.specs.Graph.{at}
 use Rattle.relation.proofs.Ranges.{range_places}
 use Rattle.quadtree.specs.declared.block.Block.{Block}
-use Rattle.quadtree.specs.declared.descent.Reached.{Reached}
 use Rattle.quadtree.specs.declared.quadtree.Quadtree.{Quadtree}
 use Rattle.quadtree.specs.Heights.{height_of}
-use Rattle.quadtree.specs.Links.{Ended}
+use Rattle.quadtree.specs.Links.{lacking}
 use Rattle.quadtree.specs.Pools.{links, Untouched}
 use Rattle.quadtree.specs.Trees.{holding}
 use Rattle.quadtree.specs.Monotone.{weight_mono}
@@ -51,15 +50,15 @@ quad_lawful q =
           );
     }
 
--- the triple is in range, and the way down to its cell ends there
-pub record Way (q : Quadtree) (t : Triple) (end : Reached) : Type 0 where
+-- the triple is in range, and so many blocks are lacking for it
+pub record Lacking (q : Quadtree) (t : Triple) (o : Option ℕ) : Type 0 where
   pub range : Ranged q.counts.labels q.counts.nodes t.label t.from t.to
-  pub ended : Ended (links (blocks_of q)) (slice_index q.roots t.label) q.height t.from t.to end.link end.height
+  pub is : o ≡ lacking (links (blocks_of q)) (slice_index q.roots t.label) q.height t.from t.to
 
--- where the way down to a triple's cell ends, or what of the triple is out of range
-abbrev pub Reaches : Quadtree → Triple → Result Reached RangeFault → Type 0
-Reaches q t (Ok end) = Way q t end
-Reaches q t (Err fault) = at (range_answer q.counts.labels q.counts.nodes) t ≡ Err fault
+-- how many blocks are lacking for a triple that is not held, none for one that is, or what of it is out of range
+abbrev pub Lacks : Quadtree → Triple → Result (Option ℕ) RangeFault → Type 0
+Lacks q t (Ok o) = Lacking q t o
+Lacks q t (Err fault) = at (range_answer q.counts.labels q.counts.nodes) t ≡ Err fault
 
 -- what a put leaves of the blocks: as many as there were; those beyond the spent count as they were; and all of them, unless the triple was new
 pub record BlocksAfter (before after : List Block) (spent : ℕ) (answer : Result Grant StoreFault) : Type 0 where

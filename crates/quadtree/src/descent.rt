@@ -1,35 +1,32 @@
-//! The ways down a tree: to see how far blocks stand on the way to a cell, and to insert one. Both go by recursion, and the height falls at each call.
+//! The ways down a tree: to see which blocks are lacking on the way to a cell, and to insert one. Both go by recursion, and the height falls at each call.
 
 ghost use Rattle.std.specs.Prelude.{◌≡◌, ◌+◌, ◌<◌, ◌≤◌, length};
 ghost use Rattle.quadtree.specs.Growth.{Tree, Opened, Grown};
-ghost use Rattle.quadtree.specs.Links.{lacks, Ended};
+ghost use Rattle.quadtree.specs.Links.{lacks, lacking};
 ghost use Rattle.quadtree.specs.Making.{capacity_of};
 ghost use Rattle.quadtree.specs.Pools.{links, Untouched};
 
 use crate::block::Block;
 use crate::cell::Cell;
 
-/// Where the way down to a cell ends: the last link, and its height. The cell stands where the link is not 0, and as many blocks are lacking as the height says.
-#[derive(Clone, Copy)]
-pub(crate) struct Reached {
-    pub(crate) link: u32,
-    pub(crate) height: u8,
-}
-
-/// Goes down from the link towards the cell, as far as there are blocks.
-pub(crate) fn reach(blocks: &[Block], link: u32, height: u8, at: Cell) -> Reached
+/// How many blocks are lacking on the way from the link down to the cell, or `None` where the cell stands.
+pub(crate) fn lacking(blocks: &[Block], link: u32, height: u8, at: Cell) -> Option<u8>
     requires low { height ≤ 16 }
     requires tree { Tree (links blocks.now) link height (length blocks.now) }
-    ensures { Ended (links blocks.now) link height at.u at.v result.link result.height }
+    ensures { result ≡ lacking (links blocks.now) link height at.u at.v }
 {
-    if link == 0 || height == 0 {
-        return Reached { link, height };
+    if link == 0 {
+        return Some(height);
     }
+    if height == 0 {
+        return None;
+    }
+    // `as`, here and below: there is no `From` from `u32` to `usize`.
     let below = blocks[link as usize - 1].children[at.quarter(height - 1)];
-    reach(blocks, below, height - 1, at)
+    lacking(blocks, below, height - 1, at)
 }
 
-/// A link, and how many blocks of the pool are taken.
+/// A link, a number as in a quarter, and how many blocks of the pool are taken. The pool is lent memory, so it cannot keep its own count.
 #[derive(Clone, Copy)]
 pub(crate) struct Taken {
     pub(crate) link: u32,

@@ -74,5 +74,5 @@ fn entry(table: &[u8], nodes: u16) -> u8
     requires within { nodes < length table.now }
     ensures { result ≡ height_of nodes }
 {
-    table[nodes as usize]
+    table[usize::from(nodes)]
 }

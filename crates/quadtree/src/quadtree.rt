@@ -17,7 +17,7 @@ mod store;
 #[derive(Drop)]
 pub struct Quadtree<'a> {
     blocks: &'a mut [Block],
-    // The root of each label's tree.
+    // The root of each label's tree: a number as in a quarter, 0 where the tree is empty.
     roots: [u32; 64],
     // How many blocks are taken.
     spent: u32,

@@ -1,5 +1,6 @@
 mod Marks
 pub mod Codes
+pub mod Files
 mod Ranges
 mod Runs
 pub mod Places

@@ -1,7 +1,6 @@
 -- The first bytes of a list, the records that begin with them, and what comes after. Assumes nothing.
 use Rattle.std.proofs.Common.{◌≡◌, ℕ, zero, suc, ◌+◌, ◌-◌, ◌*◌, ◌/◌, ◌%◌, ◌<◌, ◌≤◌, List, [], ◌∷◌, ◌++◌, length, get_or, take, drop, sym, refl, ap, ◌∙◌, add-zero, arith, length-append, length-drop, take-append-drop, drop-cons}
 use Rattle.std.proofs.lemmas.List.{take_rest, drop-drop, drop_at}
-use Rattle.records.specs.Format.{Entry, header, rule, edge, end, encode}
 
 -- the n bytes of s from i on, each read by its index
 abbrev reads : ℕ → ℕ → List ℕ → List ℕ
@@ -15,20 +14,9 @@ opened (suc n) i s h =
     let here : i < length s = omega arith in
     drop-cons s i 0 here ∙ ap (λ l. get_or s i 0 ∷ l) (opened n (suc i) s (omega arith) ∙ ap (λ m. reads n (suc i) s ++ drop m s) k)
 
--- a mark, and what follows it as the reader takes it
-pub marked : (s : List ℕ) (a b : ℕ) → 2 ≤ length s → get_or s 0 0 ≡ a → get_or s 1 0 ≡ b → s ≡ a ∷ b ∷ take (length s - 2) (drop 2 s)
-marked s a b le p q = let e = opened 2 0 s le in let f = take_rest s 2 in cc
-
 -- a number of two bytes is read as it is written
 pub two_read : (n high low : ℕ) → n ≡ high * 256 + low → low < 256 → (high ≡ n / 256) × (low ≡ n % 256)
 two_read n high low e lt = (omega arith, omega arith)
-
--- a rule whose items do not all follow is no record
-pub cut_rule : (s : List ℕ) → 2 ≤ length s → length s < 2 + get_or s 1 0 → (e : Entry) (t : List ℕ) → 82 ∷ 76 ∷ s ≡ encode e ++ t → ⊥
-cut_rule s le short (header l n) t h = let z = ap (λ l. get_or l 0 0) h in omega arith
-cut_rule s le short (rule x xs) t h = let z = ap (λ l. get_or l 3 0) h in omega (arith, ap length h, length-append xs t)
-cut_rule s le short (edge l n m) t h = let z = ap (λ l. get_or l 0 0) h in omega arith
-cut_rule s le short end t h = let z = ap (λ l. get_or l 0 0) h in omega arith
 
 -- a rule whose items all follow
 pub whole_rule : (s items : List ℕ) (n : ℕ) → 2 ≤ length s → n ≡ get_or s 1 0 → items ≡ take (n - 0) (take (length s - 2) (drop 2 s)) → length items + 0 ≡ n → s ≡ get_or s 0 0 ∷ length items ∷ (items ++ drop n (drop 2 s))

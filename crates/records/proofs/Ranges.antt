@@ -1,5 +1,5 @@
 -- Bytes encode only fields that are in their ranges. Assumes nothing.
-use Rattle.std.proofs.Common.{ℕ, suc, ◌<◌, List, [], ◌∷◌, ◌++◌, get_or, subst, arith}
+use Rattle.std.proofs.Common.{ℕ, suc, ◌<◌, List, [], ◌∷◌, ◌++◌, get_or, subst, arith, Fits, w8}
 use Rattle.std.specs.List.{AllByRecursion}
 use Rattle.records.specs.Format.{Entry, header, rule, edge, end, encode, encode_all, InRange}
 use Rattle.records.specs.Reading.{Ranged}
@@ -22,5 +22,5 @@ all_in_range : (es : List Entry) → Bytes (encode_all es) → AllByRecursion In
 all_in_range [] h = tt
 all_in_range (e ∷ es) h = let parts = front_bytes (encode e) (encode_all es) h in (in_range e parts.0, all_in_range es parts.1)
 
-pub ranged : {bytes : List ℕ} → Bytes bytes → Ranged bytes
-ranged h = λ es e. all_in_range es (subst Bytes e h)
+pub ranged : {bytes : List ℕ} → ((i : ℕ) → Fits w8 (get_or bytes i 0)) → Ranged bytes
+ranged h = λ es e. all_in_range es (subst Bytes e (λ i. omega (arith, h i)))

@@ -15,27 +15,29 @@ use Rattle.records.proofs.Codes.{same_front, nothing_encoded}
 use Rattle.records.proofs.Places.{stops_from_stuck, not_a_file, one_place}
 use Rattle.records.proofs.Runs.{Run, run_append, file_from_run, clash}
 
--- the pass has read the records es from the start of the bytes, and they lead to the stage
-pub record Sofar (bytes : List ℕ) (es : List Entry) (stage : Stage) (r : Records) : Type 0 where
+-- the pass has read the records es from the start of the bytes, up to the place, and they lead to the stage
+pub record Sofar (bytes : List ℕ) (es : List Entry) (stage : Stage) (place : ℕ) (r : Records) : Type 0 where
   pub run : Run Start es stage
   pub input : r.input.now ≡ bytes
-  pub place : r.place ≡ length (encode_all es)
+  pub here : place ≡ r.place
+  pub size : r.place ≡ length (encode_all es)
   pub front : bytes ≡ encode_all es ++ rest_of r
 
-module _ {bytes : List ℕ} {es : List Entry} {stage : Stage} {was : Records} (sofar : Sofar bytes es stage was) where
-  pub more : {t : Token} {is : Records} {next : Stage} → Reads t was is → follow stage (entry t.record) ≡ Some next → Sofar bytes (es ++ entry t.record ∷ []) next is
-  more {t} {is} {next} r placed =
+module _ {bytes : List ℕ} {es : List Entry} {stage : Stage} {place : ℕ} {was : Records} (sofar : Sofar bytes es stage place was) where
+  pub more : {t : Token} {is : Records} {next : Stage} {n : ℕ} → Reads t was is → follow stage (entry t.record) ≡ Some next → n ≡ length (encode (entry t.record)) → Sofar bytes (es ++ entry t.record ∷ []) next (place + n) is
+  more {t} {is} {next} {n} r placed size =
       let e = entry t.record in
       let one_more = flat_map_more encode [] es e in
       record {
         run = run_append Start stage next es (e ∷ []) sofar.run (next, placed, refl);
         input = r.input ∙ sofar.input;
-        place = r.place ∙ ap (λ n. n + length (encode e)) sofar.place ∙ sym (length-append (encode_all es) (encode e)) ∙ ap length one_more;
+        here = omega (arith, sofar.here, r.place);
+        size = r.place ∙ ap (λ n. n + length (encode e)) sofar.size ∙ sym (length-append (encode_all es) (encode e)) ∙ ap length one_more;
         front = sofar.front ∙ ap (λ l. encode_all es ++ l) r.front ∙ sym (append_assoc (encode_all es) (encode e) (rest_of is)) ∙ ap (λ l. l ++ rest_of is) one_more;
       }
 
   -- a record that may not stand here
-  pub misplaced : {t : Token} {is : Records} → Reads t was is → follow stage (entry t.record) ≡ None → Stops bytes t.place
+  pub misplaced : {t : Token} {is : Records} → Reads t was is → follow stage (entry t.record) ≡ None → Stops bytes place
   misplaced {t} {is} r not =
       stops_from_stuck es stage (rest_of was) sofar.run
       (record {
@@ -44,23 +46,23 @@ module _ {bytes : List ℕ} {es : List Entry} {stage : Stage} {was : Records} (s
             clash (sym not ∙ ap (follow stage) (sym same.0) ∙ placed);
         unended = λ done empty. nothing_encoded (entry t.record) (rest_of is) (sym empty ∙ r.front);
       })
-      sofar.front (r.here ∙ sofar.place)
+      sofar.front (sofar.here ∙ sofar.size)
 
   -- no record stands here, and the file does not end here
-  pub cut_off : NoRecord (rest_of was) → (stage ≡ Done → rest_of was ≡ [] → ⊥) → Stops bytes was.place
-  cut_off none unended = stops_from_stuck es stage (rest_of was) sofar.run (record { none = λ e t next placed front. none e t front; unended = unended }) sofar.front sofar.place
+  pub cut_off : NoRecord (rest_of was) → (stage ≡ Done → rest_of was ≡ [] → ⊥) → Stops bytes place
+  cut_off none unended = stops_from_stuck es stage (rest_of was) sofar.run (record { none = λ e t next placed front. none e t front; unended = unended }) sofar.front (sofar.here ∙ sofar.size)
 
-  pub finished : stage ≡ Done → rest_of was ≡ [] → IsFile bytes
-  finished done empty = (es, file_from_run es (subst (Run Start es) done sofar.run), sofar.front ∙ ap (λ l. encode_all es ++ l) empty ∙ append-nil (encode_all es))
+  -- the file has ended, and nothing is left of the bytes
+  pub whole : stage ≡ Done → length bytes ≤ place → IsFile bytes
+  whole done end =
+      let empty = nil_from_length (rest_of was) (omega (arith, sofar.here, ap length sofar.input, length-drop was.place was.input.now)) in
+      (es, file_from_run es (subst (Run Start es) done sofar.run), sofar.front ∙ ap (λ l. encode_all es ++ l) empty ∙ append-nil (encode_all es))
 
-  -- nothing is left of the bytes exactly where the pass has come to their length
-  pub empty_at_end : was.place ≡ length bytes → rest_of was ≡ []
-  empty_at_end here = nil_from_length (rest_of was) (omega (arith, ap length sofar.input, length-drop was.place was.input.now))
-
-  pub end_where_empty : rest_of was ≡ [] → was.place ≡ length bytes
+  -- the pass has come to their length where nothing is left
+  pub end_where_empty : rest_of was ≡ [] → place ≡ length bytes
   end_where_empty empty =
       let within : was.place ≤ length was.input.now = was.within in
-      omega (arith, ap length sofar.input, sym (length-drop was.place was.input.now) ∙ ap length empty)
+      omega (arith, sofar.here, ap length sofar.input, sym (length-drop was.place was.input.now) ∙ ap length empty)
 
 -- a reading that answers so answers nothing else
 pub exact : {bytes : List ℕ} (r : Result File Misshapen) → Reading bytes r → Exact bytes r

@@ -8,14 +8,14 @@ use Rattle.records.specs.declared.reader.Records.{Records}
 use Rattle.records.specs.declared.record.Record.{Record}
 use Rattle.records.specs.declared.record.Record.TheVariants.{Header, Rule, Edge, End}
 use Rattle.records.specs.declared.record.Token.{Token}
-use Rattle.records.specs.Format.{Entry, header, rule, edge, end, encode, encode_all, InRange, IsFile, placed}
+use Rattle.records.specs.Format.{Entry, header, rule, edge, end, encode, encode_all, InRange, FileOf, IsFile, placed}
 use Rattle.records.specs.Shape.{Stops}
 
 -- what a record says
 abbrev pub entry : Record → Entry
-entry (Header labels nodes) = header labels nodes
+entry (Header c) = header c.labels c.nodes
 entry (Rule head items) = rule head items.now
-entry (Edge label from to) = edge label from to
+entry (Edge t) = edge t.label t.from t.to
 entry End = end
 
 -- what a token says, with its place
@@ -59,6 +59,10 @@ Steps was None is = (is ≡ was) × NoRecord (rest_of was)
 -- calls of next give just the records that the bytes encode, in order, each with its place, and then none
 abbrev pub Passes : List ℕ → Records → Type 0
 Passes bytes r = (es : List Entry) → bytes ≡ encode_all es → AlwaysYields Steps told r (placed 0 es)
+
+-- the bytes are a file, and calls of next give just its records
+abbrev pub Gives : List ℕ → Records → Type 0
+Gives bytes r = (es : List Entry) × FileOf es × (bytes ≡ encode_all es) × AlwaysYields Steps told r (placed 0 es)
 
 -- the fields of whatever records the bytes encode are in their ranges
 abbrev pub Ranged : List ℕ → Type 0

@@ -5,6 +5,7 @@ ghost use Rattle.graph.specs.declared.refusal.Refusal.TheVariants.{Shape};
 ghost use Rattle.records.specs.Copying.{fault, Copies};
 
 use crate::file::{File, Misshapen};
+use crate::record::Token;
 use graph::Refusal;
 
 /// Why a file was refused, and at which byte place.
@@ -38,15 +39,12 @@ pub fn copy_file(bytes: &[u8], out: &mut [u8]) -> Result<usize, Fault>
             place: bytes.len(),
         });
     }
+    // A count: of a slice that is cut shorter on each turn nothing could be concluded for the whole memory.
     let mut written = 0;
-    for token in file.records() {
-        match token.record.write(&mut out[written..]) {
-            Ok(size) => written += size,
-            Err(refusal) => {
-                let place = token.place;
-                return Err(Fault { refusal, place });
-            }
-        }
+    for Token { place, record } in file.records() {
+        written += record
+            .write(&mut out[written..])
+            .map_err(|refusal| Fault { refusal, place })?;
     }
     Ok(written)
 }

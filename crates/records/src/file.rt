@@ -1,7 +1,7 @@
 //! Whole files. The bytes are gone over once, and each record has to be one that a file may have there.
 
 ghost use Rattle.std.specs.Prelude.{◌≡◌};
-ghost use Rattle.records.specs.Reading.{entry, bytes_of, Passes, Ranged, Reading, Exact};
+ghost use Rattle.records.specs.Format.{IsFile};
 ghost use Rattle.records.specs.Stages.{follow};
 
 use crate::reader::Records;
@@ -11,6 +11,7 @@ use crate::record::Record;
 #[derive(Clone, Copy, Debug)]
 pub struct File<'a> {
     bytes: &'a [u8],
+    ghost is_file: { ∥ IsFile bytes.now ∥₁ },
 }
 
 /// Why bytes are no file: at this place they stop being one.
@@ -32,13 +33,15 @@ enum Stage {
 }
 
 impl Stage {
+    ghost use Rattle.records.specs.Reading.{entry};
+
     /// The stage after `record`, if that may stand here.
     fn after(self, record: &Record) -> Option<Stage>
         ensures { result ≡ follow self (entry «record».now) }
     {
         match (self, record) {
-            (Stage::Start, Record::Header { .. }) => Some(Stage::Body),
-            (Stage::Body, Record::Rule { .. } | Record::Edge { .. }) => Some(Stage::Body),
+            (Stage::Start, Record::Header(_)) => Some(Stage::Body),
+            (Stage::Body, Record::Rule { .. } | Record::Edge(_)) => Some(Stage::Body),
             (Stage::Body, Record::End) => Some(Stage::Done),
             _ => None,
         }
@@ -46,21 +49,21 @@ impl Stage {
 }
 
 impl<'a> File<'a> {
+    ghost use Rattle.records.specs.Reading.{bytes_of, Passes, Gives, Ranged, Reading, Exact};
+
     /// Reads the whole of `bytes`, or says where they stop being a file.
     pub fn read(bytes: &'a [u8]) -> Result<Self, Misshapen>
         ensures cases { Reading bytes.now result }
         ensures exact { Exact bytes.now result }
         ensures ranges { Ranged bytes.now }
     {
-        let mut records = Records::new(bytes);
         let mut stage = Stage::Start;
-        while let Some(token) = records.next() {
-            let Some(next) = stage.after(&token.record) else {
-                return Err(Misshapen { place: token.place });
-            };
-            stage = next;
+        // A count: a pass that a `for` has taken, by value or by reference, does not tell behind the loop where it stands.
+        let mut place = 0;
+        for token in Records::new(bytes) {
+            stage = stage.after(&token.record).ok_or(Misshapen { place })?;
+            place += token.record.size();
         }
-        let place = records.place();
         let Stage::Done = stage else {
             return Err(Misshapen { place });
         };
@@ -72,7 +75,8 @@ impl<'a> File<'a> {
 
     /// The records of the file in order, each with its byte place.
     pub fn records(&self) -> Records<'a>
-        ensures { Passes (bytes_of self.now) result }
+        ensures passes { Passes (bytes_of self.now) result }
+        ensures gives { Gives (bytes_of self.now) result }
     {
         Records::new(self.bytes)
     }

@@ -4,19 +4,17 @@ ghost use Rattle.std.specs.Prelude.{◌++◌, codes};
 ghost use Rattle.records.specs.Reading.{Front};
 
 use crate::record::Record;
+use graph::{Counts, Triple};
 
 /// The record that `bytes` begins with.
 pub(crate) fn front(bytes: &[u8]) -> Option<Record<'_>>
     ensures { Front bytes.now result }
 {
-    let [a, b, fields @ ..] = bytes else {
-        return None;
-    };
-    match (*a, *b) {
-        (b'G', b'R') => header(fields),
-        (b'R', b'L') => rule(fields),
-        (b'E', b'D') => edge(fields),
-        (b'E', b'N') => Some(Record::End),
+    match bytes {
+        [b'G', b'R', fields @ ..] => header(fields),
+        [b'R', b'L', fields @ ..] => rule(fields),
+        [b'E', b'D', fields @ ..] => edge(fields),
+        [b'E', b'N', ..] => Some(Record::End),
         _ => None,
     }
 }
@@ -25,13 +23,11 @@ pub(crate) fn front(bytes: &[u8]) -> Option<Record<'_>>
 fn header(fields: &[u8]) -> Option<Record<'_>>
     ensures { Front (codes "GR" ++ fields.now) result }
 {
-    let [labels, n1, n0, ..] = fields else {
+    let &[labels, n1, n0, ..] = fields else {
         return None;
     };
-    Some(Record::Header {
-        labels: *labels,
-        nodes: u16::from_be_bytes([*n1, *n0]),
-    })
+    let nodes = u16::from_be_bytes([n1, n0]);
+    Some(Record::Header(Counts { labels, nodes }))
 }
 
 /// The rule that the mark RL and `fields` begin with. Its items are a part of `fields`.
@@ -49,12 +45,10 @@ fn rule(fields: &[u8]) -> Option<Record<'_>>
 fn edge(fields: &[u8]) -> Option<Record<'_>>
     ensures { Front (codes "ED" ++ fields.now) result }
 {
-    let [label, f1, f0, t1, t0, ..] = fields else {
+    let &[label, f1, f0, t1, t0, ..] = fields else {
         return None;
     };
-    Some(Record::Edge {
-        label: *label,
-        from: u16::from_be_bytes([*f1, *f0]),
-        to: u16::from_be_bytes([*t1, *t0]),
-    })
+    let from = u16::from_be_bytes([f1, f0]);
+    let to = u16::from_be_bytes([t1, t0]);
+    Some(Record::Edge(Triple { label, from, to }))
 }

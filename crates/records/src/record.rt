@@ -4,17 +4,17 @@ ghost use Rattle.std.specs.Prelude.{◌≡◌, length};
 ghost use Rattle.records.specs.Format.{encode};
 ghost use Rattle.records.specs.Reading.{entry};
 
-use graph::Refusal;
+use graph::{Counts, Refusal, Triple};
 
 /// One record of a file. A rule's items are a part of the file itself.
 #[derive(Clone, Copy, Debug, PartialEq)]
 pub enum Record<'a> {
     /// GR: how many labels and nodes there are.
-    Header { labels: u8, nodes: u16 },
+    Header(Counts),
     /// RL: a rule's head and its items, a byte each.
     Rule { head: u8, items: &'a [u8] },
     /// ED: a label, the node that its edge starts from and the node it goes to.
-    Edge { label: u8, from: u16, to: u16 },
+    Edge(Triple),
     /// EN: the file ends here.
     End,
 }
@@ -25,9 +25,9 @@ impl Record<'_> {
         ensures { result ≡ length (encode (entry self.now)) }
     {
         match self {
-            Record::Header { .. } => 5,
+            Record::Header(_) => 5,
             Record::Rule { items, .. } => 4 + items.len(),
-            Record::Edge { .. } => 7,
+            Record::Edge(_) => 7,
             Record::End => 2,
         }
     }

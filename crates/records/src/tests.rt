@@ -1,5 +1,5 @@
 use super::*;
-use graph::Refusal;
+use graph::{Counts, Refusal, Triple};
 use std::alloc::AllocError;
 use std::process::Abort;
 
@@ -30,60 +30,69 @@ fn accepted(rt: &impl Abort, bytes: &[u8], what: &str) {
 
 #[test]
 fn accepts_files(rt: HostRuntime) {
-    accepted(&rt, SAMPLE, "the sample");
-    accepted(&rt, b"GR\0\0\0EN", "no rules and no edges");
-    accepted(
-        &rt,
-        b"GR\xff\xff\xffED\xff\xff\xff\xff\xffRL\xff\x02\x40\xffEN",
-        "any numbers",
-    );
+    let files: [(&[u8], &str); 3] = [
+        (SAMPLE, "the sample"),
+        (b"GR\0\0\0EN", "no rules and no edges"),
+        (
+            b"GR\xff\xff\xffED\xff\xff\xff\xff\xffRL\xff\x02\x40\xffEN",
+            "any numbers",
+        ),
+    ];
+    for (bytes, what) in files {
+        accepted(&rt, bytes, what);
+    }
 }
 
 #[test]
 fn says_where_each_beginning_stops(rt: HostRuntime) {
     let file: &[u8] = SAMPLE;
-    for length in 0..46 {
+    for (length, place) in CUT.into_iter().enumerate() {
         assert!(rt; length <= file.len());
-        stops(
-            &rt,
-            &file[0..length],
-            CUT[length],
-            "a beginning of the sample",
-        );
+        stops(&rt, &file[..length], place, "a beginning of the sample");
     }
 }
 
 #[test]
 fn says_where_other_bytes_stop(rt: HostRuntime) {
-    stops(&rt, b"EN", 0, "the end first");
-    stops(&rt, b"RL\0\0GR\0\0\0EN", 0, "a rule first");
-    stops(&rt, b"GR\0\0\0GR\0\0\0EN", 5, "two headers");
-    stops(&rt, b"GR\0\0\0ENED\0\0\0\0\0EN", 7, "an edge after the end");
-    stops(&rt, b"GR\0\0\0ENEN", 7, "two ends");
-    stops(&rt, b"GR\0\0\0EN\0", 7, "a stray byte");
-    stops(&rt, b"GR\0\0\0PR\0\0\0\0EN", 5, "a pair");
-    stops(&rt, b"GR\0\0\0LS\0\0\0\0\0EN", 5, "a listing");
-    stops(&rt, b"GR\0\0\0NO\x03\0\0\0\0EN", 5, "a refusal");
-    stops(&rt, b"gr\0\0\0EN", 0, "a mark in small letters");
-    stops(&rt, b"GR\0\0\0RL\0\x04\0EN", 5, "items past the end");
-    stops(
-        &rt,
-        b"GR\0\0\0RL\0\x02\0EN",
-        11,
-        "items that take half of the end's mark",
-    );
+    let cases: [(&[u8], usize, &str); 12] = [
+        (b"EN", 0, "the end first"),
+        (b"RL\0\0GR\0\0\0EN", 0, "a rule first"),
+        (b"GR\0\0\0GR\0\0\0EN", 5, "two headers"),
+        (b"GR\0\0\0ENED\0\0\0\0\0EN", 7, "an edge after the end"),
+        (b"GR\0\0\0ENEN", 7, "two ends"),
+        (b"GR\0\0\0EN\0", 7, "a stray byte"),
+        (b"GR\0\0\0PR\0\0\0\0EN", 5, "a pair"),
+        (b"GR\0\0\0LS\0\0\0\0\0EN", 5, "a listing"),
+        (b"GR\0\0\0NO\x03\0\0\0\0EN", 5, "a refusal"),
+        (b"gr\0\0\0EN", 0, "a mark in small letters"),
+        (b"GR\0\0\0RL\0\x04\0EN", 5, "items past the end"),
+        (
+            b"GR\0\0\0RL\0\x02\0EN",
+            11,
+            "items that take half of the end's mark",
+        ),
+    ];
+    for (bytes, place, what) in cases {
+        stops(&rt, bytes, place, what);
+    }
     let mut longer = [0; 47];
     longer[0..46].copy_from_slice(SAMPLE);
     stops(&rt, &longer, 46, "a byte after the sample");
 }
 
-/// Checks that the next token of a pass is `record`, at `place`.
-fn gives(rt: &impl Abort, records: &mut Records<'_>, place: usize, record: Record<'_>) {
-    let Some(token) = records.next() else {
-        panic!(rt; "no more records");
-    };
-    assert_eq!(rt; token.place, place);
-    assert_eq!(rt; token.record, record);
+/// A header of these counts.
+fn header(labels: u8, nodes: u16) -> Record<'static> {
+    Record::Header(Counts { labels, nodes })
+}
+
+/// An edge of this label between these nodes.
+fn edge(label: u8, from: u16, to: u16) -> Record<'static> {
+    Record::Edge(Triple { label, from, to })
+}
+
+/// A rule of this head and these items.
+fn rule(head: u8, items: &[u8]) -> Record<'_> {
+    Record::Rule { head, items }
 }
 
 #[test]
@@ -91,20 +100,21 @@ fn gives_the_records_in_order(rt: HostRuntime) {
     let Ok(file) = File::read(SAMPLE) else {
         panic!(rt; "refused");
     };
+    let expected = [
+        (0, header(3, 4)),
+        (5, rule(2, b"\0\x02\x01")),
+        (12, rule(2, b"")),
+        (16, edge(0, 0, 1)),
+        (23, edge(0, 1, 2)),
+        (30, edge(1, 2, 3)),
+        (37, edge(1, 3, 0)),
+        (44, Record::End),
+    ];
     let mut records = file.records();
-    let (labels, nodes) = (3, 4);
-    gives(&rt, &mut records, 0, Record::Header { labels, nodes });
-    let items: &[u8] = b"\0\x02\x01";
-    gives(&rt, &mut records, 5, Record::Rule { head: 2, items });
-    let items: &[u8] = b"";
-    gives(&rt, &mut records, 12, Record::Rule { head: 2, items });
-    let mut place = 16;
-    for (label, from, to) in [(0, 0, 1), (0, 1, 2), (1, 2, 3), (1, 3, 0)] {
-        gives(&rt, &mut records, place, Record::Edge { label, from, to });
-        place = place.saturating_add(7);
+    for (place, record) in expected {
+        assert_eq!(rt; records.next(), Some(Token { place, record }));
     }
-    gives(&rt, &mut records, 44, Record::End);
-    assert!(rt; records.next().is_none());
+    assert_eq!(rt; records.next(), None);
 }
 
 #[test]
@@ -138,47 +148,44 @@ fn written(rt: &impl Abort, record: Record<'_>, expected: &[u8], out: &mut [u8])
 
 #[test]
 fn writes_records(rt: HostRuntime) {
-    let out = &mut [0; 16];
-    let (labels, nodes) = (64, 1024);
-    written(&rt, Record::Header { labels, nodes }, b"GR\x40\x04\0", out);
-    let (label, from, to) = (1, 0x0203, 0x0405);
-    written(
-        &rt,
-        Record::Edge { label, from, to },
-        b"ED\x01\x02\x03\x04\x05",
-        out,
-    );
-    let items: &[u8] = b"\x80\x01";
-    written(
-        &rt,
-        Record::Rule { head: 7, items },
-        b"RL\x07\x02\x80\x01",
-        out,
-    );
-    let items: &[u8] = b"";
-    written(&rt, Record::Rule { head: 7, items }, b"RL\x07\0", out);
-    written(&rt, Record::End, b"EN", out);
+    let cases: [(Record<'_>, &[u8]); 5] = [
+        (header(64, 1024), b"GR\x40\x04\0"),
+        (edge(1, 0x0203, 0x0405), b"ED\x01\x02\x03\x04\x05"),
+        (rule(7, b"\x80\x01"), b"RL\x07\x02\x80\x01"),
+        (rule(7, b""), b"RL\x07\0"),
+        (Record::End, b"EN"),
+    ];
+    let mut out = [0; 16];
+    for (record, expected) in cases {
+        written(&rt, record, expected, &mut out);
+    }
 }
 
 #[test]
 fn writes_output(rt: HostRuntime) {
-    let mut out = [b'.'; 9];
     let (from, to) = (0x0102, 0x0304);
-    let pair = Output::Pair { from, to };
-    assert_eq!(rt; pair.write(&mut out[1..6]), Err(Refusal::Short));
-    assert_eq!(rt; &out, b".........");
-    assert_eq!(rt; pair.write(&mut out[1..7]), Ok(6));
-    assert_eq!(rt; &out, b".PR\x01\x02\x03\x04..");
     let (label, pairs) = (5, 0x0001_0203);
-    let listing = Output::Listing { label, pairs };
-    assert_eq!(rt; listing.write(&mut out[1..7]), Err(Refusal::Short));
-    assert_eq!(rt; listing.write(&mut out[1..8]), Ok(7));
-    assert_eq!(rt; &out, b".LS\x05\0\x01\x02\x03.");
     let (refusal, place) = (Refusal::Short, 0xffff);
-    let no = Output::No { refusal, place };
-    assert_eq!(rt; no.write(&mut out[2..8]), Err(Refusal::Short));
-    assert_eq!(rt; no.write(&mut out[2..9]), Ok(7));
-    assert_eq!(rt; &out, b".LNO\x0a\0\0\xff\xff");
+    let cases = [
+        (Output::Pair { from, to }, 1, 6, b".PR\x01\x02\x03\x04.."),
+        (
+            Output::Listing { label, pairs },
+            1,
+            7,
+            b".LS\x05\0\x01\x02\x03.",
+        ),
+        (Output::No { refusal, place }, 2, 7, b".LNO\x0a\0\0\xff\xff"),
+    ];
+    let mut out = [b'.'; 9];
+    for (output, at, size, expected) in cases {
+        let before = out;
+        assert!(rt; at <= 2 && 0 < size && size <= 7);
+        let end = at + size;
+        assert_eq!(rt; output.write(&mut out[at..end - 1]), Err(Refusal::Short));
+        assert_eq!(rt; out, before);
+        assert_eq!(rt; output.write(&mut out[at..end]), Ok(size));
+        assert_eq!(rt; &out, expected);
+    }
 }
 
 #[test]
@@ -216,12 +223,12 @@ fn copies_a_file(rt: HostRuntime) {
 #[test]
 fn refuses_a_copy(rt: HostRuntime) {
     let mut out = [b'.'; 45];
-    let (refusal, place) = (Refusal::Short, 46);
-    assert_eq!(rt; copy_file(SAMPLE, &mut out), Err(Fault { refusal, place }));
-    let (refusal, place) = (Refusal::Shape, 5);
-    assert_eq!(rt;
-        copy_file(b"GR\0\0\0ed", &mut out),
-        Err(Fault { refusal, place })
-    );
+    let cases: [(&[u8], Refusal, usize); 2] = [
+        (SAMPLE, Refusal::Short, 46),
+        (b"GR\0\0\0ed", Refusal::Shape, 5),
+    ];
+    for (bytes, refusal, place) in cases {
+        assert_eq!(rt; copy_file(bytes, &mut out), Err(Fault { refusal, place }));
+    }
     assert_eq!(rt; &out, &[b'.'; 45]);
 }

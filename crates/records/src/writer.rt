@@ -1,41 +1,42 @@
 //! One record a call, to the front of the memory that is left. The room is looked at before anything is written.
 
-ghost use Rattle.std.specs.Prelude.{◌≡◌};
-ghost use Rattle.records.specs.Format.{encode_output, rule};
+ghost use Rattle.std.specs.Prelude.{◌≡◌, ◌++◌};
+ghost use Rattle.records.specs.Format.{header, edge, encode, encode_output};
 ghost use Rattle.records.specs.Reading.{entry};
 ghost use Rattle.records.specs.Writing.{put_answer, after_put, write_answer, after_write};
 
 use crate::record::{Output, Record};
-use graph::{Numbered, Refusal};
+use graph::{Counts, Numbered, Refusal, Triple};
 
-/// Writes `bytes` to the front of `out`, and says how many they are.
-fn put(bytes: &[u8], out: &mut [u8]) -> Result<usize, Refusal>
-    ensures answer { result ≡ put_answer bytes.now out.old }
-    ensures memory { out.new ≡ after_put bytes.now out.old }
+/// Writes `front` and `tail` to the front of `out`, and says how many bytes they are.
+fn put(front: &[u8], tail: &[u8], out: &mut [u8]) -> Result<usize, Refusal>
+    ensures answer { result ≡ put_answer (front.now ++ tail.now) out.old }
+    ensures memory { out.new ≡ after_put (front.now ++ tail.now) out.old }
 {
-    let size = bytes.len();
+    let size = front.len() + tail.len();
     if out.len() < size {
         return Err(Refusal::Short);
     }
-    out[0..size].copy_from_slice(bytes);
+    out[..front.len()].copy_from_slice(front);
+    out[front.len()..size].copy_from_slice(tail);
     Ok(size)
 }
 
-/// Writes a rule to the front of `out`, and says how many bytes it took.
-fn put_rule(head: u8, items: &[u8], out: &mut [u8]) -> Result<usize, Refusal>
-    ensures answer { result ≡ write_answer (rule head items.now) out.old }
-    ensures memory { out.new ≡ after_write (rule head items.now) out.old }
+/// The bytes of a header.
+fn header_bytes(counts: Counts) -> [u8; 5]
+    ensures { result ≡ encode (header counts.labels counts.nodes) }
 {
-    let Ok(count) = u8::try_from(items.len()) else {
-        return Err(Refusal::Long);
-    };
-    let size = 4 + items.len();
-    if out.len() < size {
-        return Err(Refusal::Short);
-    }
-    out[0..4].copy_from_slice(&[b'R', b'L', head, count]);
-    out[4..size].copy_from_slice(items);
-    Ok(size)
+    let [n1, n0] = counts.nodes.to_be_bytes();
+    [b'G', b'R', counts.labels, n1, n0]
+}
+
+/// The bytes of an edge.
+fn edge_bytes(triple: Triple) -> [u8; 7]
+    ensures { result ≡ encode (edge triple.label triple.from triple.to) }
+{
+    let [f1, f0] = triple.from.to_be_bytes();
+    let [t1, t0] = triple.to.to_be_bytes();
+    [b'E', b'D', triple.label, f1, f0, t1, t0]
 }
 
 impl Record<'_> {
@@ -45,17 +46,13 @@ impl Record<'_> {
         ensures memory { out.new ≡ after_write (entry self.now) out.old }
     {
         match *self {
-            Record::Header { labels, nodes } => {
-                let [n1, n0] = nodes.to_be_bytes();
-                put(&[b'G', b'R', labels, n1, n0], out)
+            Record::Header(counts) => put(&header_bytes(counts), &[], out),
+            Record::Rule { head, items } => {
+                let count = u8::try_from(items.len()).map_err(|_| Refusal::Long)?;
+                put(&[b'R', b'L', head, count], items, out)
             }
-            Record::Rule { head, items } => put_rule(head, items, out),
-            Record::Edge { label, from, to } => {
-                let [f1, f0] = from.to_be_bytes();
-                let [t1, t0] = to.to_be_bytes();
-                put(&[b'E', b'D', label, f1, f0, t1, t0], out)
-            }
-            Record::End => put(b"EN", out),
+            Record::Edge(triple) => put(&edge_bytes(triple), &[], out),
+            Record::End => put(b"EN", &[], out),
         }
     }
 }
@@ -70,15 +67,15 @@ impl Output {
             Output::Pair { from, to } => {
                 let [f1, f0] = from.to_be_bytes();
                 let [t1, t0] = to.to_be_bytes();
-                put(&[b'P', b'R', f1, f0, t1, t0], out)
+                put(&[b'P', b'R', f1, f0, t1, t0], &[], out)
             }
             Output::Listing { label, pairs } => {
                 let [p3, p2, p1, p0] = pairs.to_be_bytes();
-                put(&[b'L', b'S', label, p3, p2, p1, p0], out)
+                put(&[b'L', b'S', label, p3, p2, p1, p0], &[], out)
             }
             Output::No { refusal, place } => {
                 let [p3, p2, p1, p0] = place.to_be_bytes();
-                put(&[b'N', b'O', refusal.number(), p3, p2, p1, p0], out)
+                put(&[b'N', b'O', refusal.number(), p3, p2, p1, p0], &[], out)
             }
         }
     }

@@ -18,6 +18,7 @@ impl Numbered for Grant {
     ghost number_of = { grant_number };
 
     fn number(self) -> u8 {
+        // `as` is the way to the number that a case is declared with.
         self as u8
     }
 }

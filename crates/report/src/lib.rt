@@ -27,14 +27,12 @@ fn copy_limited(input: &[u8], out: &mut [u8]) -> Result<usize, Fault>
 pub fn reply(input: &[u8], out: &mut [u8]) -> Result<usize, Refusal>
     ensures { Replies input.now out.old out.new result }
 {
+    // A `match`: of a closure that writes to `out` nothing could be concluded here.
     match copy_limited(input, out) {
         Ok(size) => Ok(size),
-        Err(fault) => {
-            let refused = Output::No {
-                refusal: fault.refusal,
-                place: fault.place as u32,
-            };
-            refused.write(out)
+        Err(Fault { refusal, place }) => {
+            let place = u32::try_from(place).unwrap();
+            Output::No { refusal, place }.write(out)
         }
     }
 }

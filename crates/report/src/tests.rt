@@ -22,14 +22,18 @@ fn gives_a_file_back(rt: HostRuntime) {
 
 #[test]
 fn says_where_the_input_is_refused(rt: HostRuntime) {
-    answers(&rt, b"", b"NO\x03\0\0\0\0", "empty");
-    answers(&rt, b"GR\x01\0\x02", b"NO\x03\0\0\0\x05", "no end");
-    answers(
-        &rt,
-        b"GR\x01\0\x02EN\0",
-        b"NO\x03\0\0\0\x07",
-        "a byte after the end",
-    );
+    let cases: [(&[u8], &[u8], &str); 3] = [
+        (b"", b"NO\x03\0\0\0\0", "empty"),
+        (b"GR\x01\0\x02", b"NO\x03\0\0\0\x05", "no end"),
+        (
+            b"GR\x01\0\x02EN\0",
+            b"NO\x03\0\0\0\x07",
+            "a byte after the end",
+        ),
+    ];
+    for (input, expected, what) in cases {
+        answers(&rt, input, expected, what);
+    }
 }
 
 #[test]

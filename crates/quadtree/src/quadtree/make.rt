@@ -10,7 +10,7 @@ use crate::heights::tree_height;
 use crate::quadtree::Quadtree;
 use graph::{Counts, FitFault};
 
-const MOST_BLOCKS: usize = 65536;
+const MOST_BLOCKS: u32 = 65536;
 
 impl<'a> Quadtree<'a> {
     /// Whether a quadtree can have so many labels and nodes. Refuses others with COUNTS.
@@ -29,7 +29,9 @@ impl<'a> Quadtree<'a> {
         let Ok(()) = Self::fit(counts) else {
             return Self::empty(blocks, Counts::new(0, 0), 0);
         };
-        let capacity = blocks.len().min(MOST_BLOCKS) as u32;
+        let capacity = u32::try_from(blocks.len())
+            .unwrap_or(MOST_BLOCKS)
+            .min(MOST_BLOCKS);
         Self::empty(blocks, counts, capacity)
     }
 

@@ -3,18 +3,18 @@
 ghost use Rattle.std.specs.Prelude.{◌≡◌, ◌+◌, nat_le};
 ghost use Rattle.graph.specs.Graph.{at};
 ghost use Rattle.relation.specs.Meaning.{held_weight, put_answer, after_put};
-ghost use Rattle.quadtree.specs.Quadtrees.{blocks_of, quad_meaning, quad_lawful, Reaches, BlocksAfter};
+ghost use Rattle.quadtree.specs.Quadtrees.{blocks_of, quad_meaning, quad_lawful, Lacks, BlocksAfter};
 
 use crate::cell::Cell;
-use crate::descent::{Reached, Taken, insert, reach};
+use crate::descent::{Taken, insert, lacking};
 use crate::quadtree::Quadtree;
 use graph::{RangeFault, Triple};
 use relation::{Grant, Store, StoreFault};
 
 impl Quadtree<'_> {
-    /// Where the way down to a triple's cell ends, or what of the triple is out of range.
-    fn reach(&self, triple: Triple) -> Result<Reached, RangeFault>
-        ensures { Reaches self.now triple result }
+    /// How many blocks are lacking for a triple, `None` where it is held, or what of it is out of range.
+    fn lacking(&self, triple: Triple) -> Result<Option<u8>, RangeFault>
+        ensures { Lacks self.now triple result }
     {
         self.counts.check(triple)?;
         let root = self.roots[usize::from(triple.label)];
@@ -22,14 +22,14 @@ impl Quadtree<'_> {
             u: triple.from,
             v: triple.to,
         };
-        Ok(reach(self.blocks, root, self.height, at))
+        Ok(lacking(self.blocks, root, self.height, at))
     }
 
-    /// Whether as many blocks are left as are lacking where the way ends.
-    fn has_room(&self, end: Reached) -> bool
-        ensures { result ≡ nat_le (self.now.spent + end.height) self.now.capacity }
+    /// Whether so many blocks are left.
+    fn has_room(&self, lacking: u8) -> bool
+        ensures { result ≡ nat_le (self.now.spent + lacking) self.now.capacity }
     {
-        self.spent + u32::from(end.height) <= self.capacity
+        self.spent + u32::from(lacking) <= self.capacity
     }
 }
 
@@ -59,17 +59,15 @@ impl Store for Quadtree<'_> {
     }
 
     fn has(&self, triple: Triple) -> bool {
-        let Ok(end) = self.reach(triple) else {
-            return false;
-        };
-        end.link > 0
+        self.lacking(triple) == Ok(None)
     }
 
     fn fits(&self, triple: Triple) -> bool {
-        let Ok(end) = self.reach(triple) else {
-            return false;
-        };
-        self.has_room(end)
+        match self.lacking(triple) {
+            Ok(Some(blocks)) => self.has_room(blocks),
+            Ok(None) => true,
+            Err(_) => false,
+        }
     }
 
     fn put(&mut self, triple: Triple) -> Result<Grant, StoreFault>
@@ -78,11 +76,10 @@ impl Store for Quadtree<'_> {
         ensures blocks { BlocksAfter (blocks_of self.old) (blocks_of self.new) (held_weight (quad_meaning self.new)) result }
         ensures lent { self.new.blocks.ghost_name ≡ self.old.blocks.ghost_name }
     {
-        let end = self.reach(triple)?;
-        if end.link > 0 {
+        let Some(lacking) = self.lacking(triple)? else {
             return Ok(Grant::Known);
-        }
-        if !self.has_room(end) {
+        };
+        if !self.has_room(lacking) {
             return Err(StoreFault::Full);
         }
         let i = usize::from(triple.label);

@@ -16,13 +16,6 @@ impl<'a> Records<'a> {
     {
         Records { input, place: 0 }
     }
-
-    /// Where the next record stands, or would stand.
-    pub(crate) fn place(&self) -> usize
-        ensures { result ≡ self.now.place }
-    {
-        self.place
-    }
 }
 
 impl<'a> Iterator for Records<'a> {

@@ -1,8 +1,9 @@
-use Rattle.std.proofs.Common.{◌≡◌, ℕ, ◌+◌, ◌-◌, [], ◌++◌, length, take, drop, sym, refl, ap, ◌∙◌, subst, arith, length-drop}
+use Rattle.std.proofs.Common.{◌≡◌, ℕ, ◌+◌, ◌-◌, [], ◌++◌, length, take, drop, sym, refl, ap, ◌∙◌, subst, arith, length-drop, Ok, Err, Result}
 use Rattle.std.proofs.lemmas.List.{take_all}
 use Rattle.std.proofs.lemmas.Result.{err_from_is_err_and}
 use Rattle.std.proofs.lemmas.Bool.{lt-ltb, le-ltb}
 use Rattle.std.specs.Iterator.{AlwaysYields}
+use Rattle.records.specs.declared.copy.Fault.{Fault}
 use Rattle.records.specs.Format.{encode, encode_all, placed}
 use Rattle.records.specs.Reading.{entry, told, Steps}
 use Rattle.records.proofs.Copied.{copied, refused}
@@ -21,45 +22,48 @@ returns-then-out-bytes c =
     let short = lt-ltb (length c.args.out.now) (length c.args.bytes.now) (omega arith) in
     copied c.in_ok-file.ensures.cases.0 (rw short refl) (rw short refl)
 
-pub loop-token-init : goal.loop-token-init
-loop-token-init c =
-    let file = c.in_ok-file.ensures.cases in
-    let pass = c.records-token-items.ensures file.0.0 (file.1 ∙ file.0.2) in
-    (file.0.0, subst (λ r. AlwaysYields Steps told r (placed 0 file.0.0)) (sym c.into_iter-token-iterator.ensures.into_iter_gives) pass, file.0.2, omega arith, refl)
+same_ok : {m n : ℕ} → ◌≡◌ {A = Result ℕ Fault} (Ok m) (Ok n) → m ≡ n
+same_ok e = cc
 
-pub loop-token-preserved : goal.loop-token-preserved
-loop-token-preserved c =
-    let inv = c.loop-token.invariant in
+never_ok : {f : Fault} {n : ℕ} → ◌≡◌ {A = Result ℕ Fault} (Err f) (Ok n) → ⊥
+never_ok e = cc
+
+pub loop-place-preserved : goal.loop-place-preserved
+loop-place-preserved c =
+    let inv = c.loop-place.invariant in
     let bytes = c.args.bytes.now in
-    let at = c.loop-token.written in
-    let e = entry c.in-Some.token.record in
+    let at = c.loop-place.written in
+    let e = entry c.in-Some.field-0.record in
     let this = turn inv.0 at inv.1 c.in-Some.ensures.steps in
     let front = ahead inv.2 this in
-    let wrote = written e (encode_all this.later) bytes c.loop-token.out at front (omega (arith, c.type_inv.bytes (at + 3))) (omega arith) in
-    let size : c.in-Ok.size ≡ length (encode e) = cc (c.write.ensures.answer, wrote.0) in
-    let next = further bytes at c.in-Ok.size (encode e) (encode_all this.later) inv.3 front size in
-    let put : c.write.new.out ≡ encode e ++ drop c.in-Ok.size (take (length c.loop-token.out - at) (drop at c.loop-token.out)) = cc (c.write.ensures.memory, wrote.1) in (
+    let wrote = written e (encode_all this.later) bytes c.loop-place.out at front (omega (arith, c.type_inv.bytes (at + 3))) (omega arith) in
+    let answer = c.write.ensures.answer ∙ wrote.0 in
+    let said = rw answer at c.in_ok-written.ensures.cases in
+    let size : c.in_ok-written.field-0 ≡ length (encode e) = same_ok said in
+    let next = further bytes at c.in_ok-written.field-0 (encode e) (encode_all this.later) inv.3 front size in
+    let put : c.write.new.out ≡ encode e ++ drop c.in_ok-written.field-0 (take (length c.loop-place.out - at) (drop at c.loop-place.out)) = cc (c.write.ensures.memory, wrote.1) in (
       this.later,
       subst (λ n. AlwaysYields Steps told c.next.new.self (placed (at + n) this.later)) (sym size) this.goes_on,
       next.1,
       next.0,
-      copied_more bytes c.args.out.now c.loop-token.out c.write.new.out at c.in-Ok.size (encode e) (encode_all this.later) inv.3 front size inv.4 put,
+      copied_more bytes c.args.out.now c.loop-place.out c.write.new.out at c.in_ok-written.field-0 (encode e) (encode_all this.later) inv.3 front size inv.4 put,
     )
 
-pub returns-in-Err : goal.returns-in-Err
-returns-in-Err c =
-    let inv = c.loop-token.invariant in
-    let at = c.loop-token.written in
+pub returns-in_err-written : goal.returns-in_err-written
+returns-in_err-written c =
+    let inv = c.loop-place.invariant in
+    let at = c.loop-place.written in
     let this = turn inv.0 at inv.1 c.in-Some.ensures.steps in
-    let wrote = written (entry c.in-Some.token.record) (encode_all this.later) c.args.bytes.now c.loop-token.out at (ahead inv.2 this) (omega (arith, c.type_inv.bytes (at + 3))) (omega arith) in
-    let never : ◌≡◌ {A = ℕ} 0 1 = cc (c.write.ensures.answer, wrote.0) in
-    absurd (omega arith)
+    let wrote = written (entry c.in-Some.field-0.record) (encode_all this.later) c.args.bytes.now c.loop-place.out at (ahead inv.2 this) (omega (arith, c.type_inv.bytes (at + 3))) (omega arith) in
+    let answer = c.write.ensures.answer ∙ wrote.0 in
+    let said = rw answer at c.in_err-written.ensures.cases in
+    absurd (never_ok said)
 
 pub returns : goal.returns
 returns c =
-    let inv = c.loop-token.invariant in
+    let inv = c.loop-place.invariant in
     let bytes = c.args.bytes.now in
-    let at = c.loop-token.written in
+    let at = c.loop-place.written in
     let none : drop at bytes ≡ [] = inv.2 ∙ ap encode_all (ended inv.0 at inv.1 c.in-None.ensures.steps) in
     let all : at ≡ length bytes = omega (arith, sym (length-drop at bytes) ∙ ap length none) in
     let fits = le-ltb (length c.args.out.now) (length bytes) (omega arith) in

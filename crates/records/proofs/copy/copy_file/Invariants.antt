@@ -5,6 +5,6 @@ use Rattle.records.specs.Reading.{told, Steps}
 use Rattle.records.proofs.copy.copy_file.Given as goal
 
 -- the records up to here are copied, and the pass gives the others
-abbrev pub invariant-loop-token : goal.invariant-loop-token
-invariant-loop-token l = (es : List Entry) × AlwaysYields Steps told l.token-iterator (placed l.written es) × (drop l.written l.bytes ≡ encode_all es) × (l.written ≤ length l.bytes)
+abbrev pub invariant-loop-place : goal.invariant-loop-place
+invariant-loop-place l = (es : List Entry) × AlwaysYields Steps told l.place-iterator (placed l.written es) × (drop l.written l.bytes ≡ encode_all es) × (l.written ≤ length l.bytes)
     × (l.out ≡ take l.written l.bytes ++ drop l.written l.initial.out)

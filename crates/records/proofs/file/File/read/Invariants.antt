@@ -4,4 +4,4 @@ use Rattle.records.proofs.Sofar.{Sofar}
 use Rattle.records.proofs.file.File.read.Given as goal
 
 abbrev pub invariant-loop-token : goal.invariant-loop-token
-invariant-loop-token l = (es : List Entry) × Sofar l.bytes es l.stage l.records
+invariant-loop-token l = (es : List Entry) × Sofar l.bytes es l.stage l.place l.token-iterator

@@ -2,13 +2,13 @@ use Rattle.std.proofs.Common.{length, sym, ◌∙◌, arith}
 use Rattle.relation.proofs.Ranges.{range_checked}
 use Rattle.quadtree.specs.Quadtrees.{blocks_of}
 use Rattle.quadtree.proofs.Stored.{low, tree_among}
-use Rattle.quadtree.proofs.quadtree.Quadtree.reach.Goals as goal
+use Rattle.quadtree.proofs.quadtree.Quadtree.lacking.Goals as goal
 
-pub reach-requires-clause-low : goal.reach-requires-clause-low
-reach-requires-clause-low c = low c.args.self.now
+pub lacking-requires-clause-low : goal.lacking-requires-clause-low
+lacking-requires-clause-low c = low c.args.self.now
 
-pub reach-requires-clause-tree : goal.reach-requires-clause-tree
-reach-requires-clause-tree c =
+pub lacking-requires-clause-tree : goal.lacking-requires-clause-tree
+lacking-requires-clause-tree c =
     let q = c.args.self.now in
     let r = range_checked q.counts.labels q.counts.nodes c.args.triple.label c.args.triple.from c.args.triple.to (sym c.check.ensures ∙ c.in_ok-check.was) in
     tree_among q c.from.result (length (blocks_of q)) (omega arith) (omega arith)
