@@ -85,6 +85,8 @@ impl From<FitFault> for Refusal {
     }
 }
 
+/// The number of a fault is that of its refusal.
+// Each fault says so for itself: `From` promises a relation, and an `impl` over all that turn into a refusal could not name the number.
 impl Numbered for FitFault {
     ghost number_of = { fit_fault_number };
 

@@ -3,6 +3,7 @@
 use Rattle.std.proofs.Common.{◌≡◌, ℕ, ◌+◌, ◌^◌, ◌<◌, ◌≤◌, Bool, true, false, cond, leb, ◌&&◌, ◌≢◌, List, length, get_or, set, Some, None, Ok, Err, Option, unwrap_or, refl, sym, ap, ◌∙◌, subst, arith}
 use Rattle.std.proofs.lemmas.Bool.{leb-true, lt-ltb}
 use Rattle.std.proofs.lemmas.List.{get_or-set_same, get_or-set_other}
+use Rattle.graph.specs.declared.triple.Triple.{Triple}
 use Rattle.graph.specs.Graph.{Triples}
 use Rattle.relation.specs.declared.answer.Grant.TheVariants.{Known, New}
 use Rattle.relation.specs.declared.answer.StoreFault.TheVariants.{Full}
@@ -13,9 +14,9 @@ use Rattle.relation.proofs.Puts.{fits_in_range, light_known, answer_taken, after
 use Rattle.relation.proofs.Ranges.{range_tested}
 use Rattle.quadtree.specs.declared.quadtree.Quadtree.{Quadtree}
 use Rattle.quadtree.specs.Growth.{Tree, Grown}
-use Rattle.quadtree.specs.Links.{Links, cell, lacks, lacking}
+use Rattle.quadtree.specs.Links.{Links, cell, lacks}
 use Rattle.quadtree.specs.Pools.{links}
-use Rattle.quadtree.specs.Quadtrees.{blocks_of, quad_meaning, quad_lawful}
+use Rattle.quadtree.specs.Quadtrees.{blocks_of, quad_meaning, quad_lawful, Lacking}
 use Rattle.quadtree.specs.Trees.{holding}
 use Rattle.quadtree.specs.Weights.{weight_of}
 use Rattle.quadtree.proofs.Least.{heights_least}
@@ -55,14 +56,22 @@ some_told : (b : Bool) (n k : ℕ) → Some k ≡ cond b None (Some n) → (b �
 some_told true n k e = cc
 some_told false n k e = (refl, ap (λ o. unwrap_or o 0) e)
 
--- A triple in range.
-module _ (q : Quadtree) {a u v : ℕ} (r : Ranged q.counts.labels q.counts.nodes a u v) where
+-- A triple in range, and what the way down to its cell tells: how many blocks are lacking, or none where it is held.
+module _ {q : Quadtree} {t : Triple} {o : Option ℕ} (way : Lacking q t o) where
+  abbrev a : ℕ
+  a = t.label
+
+  abbrev u : ℕ
+  u = t.from
+
+  abbrev v : ℕ
+  v = t.to
+
+  abbrev r : Ranged q.counts.labels q.counts.nodes a u v
+  r = way.range
+
   abbrev root : ℕ
   root = get_or q.roots a 0
-
-  -- how many blocks are lacking for it, or none where it is held
-  abbrev lacking_is : Option ℕ
-  lacking_is = lacking (ch q) root q.height u v
 
   held_is : (quad_meaning q).held a u v ≡ cell (ch q) root q.height u v
   held_is = ap (λ t. t && cell (ch q) root q.height u v) (range_tested q.counts.labels q.counts.nodes a u v r)
@@ -75,9 +84,9 @@ module _ (q : Quadtree) {a u v : ℕ} (r : Ranged q.counts.labels q.counts.nodes
       ∙ weight_lacking (ch q) q.roots q.counts.labels q.counts.nodes q.height q.spent q.size a u v (wide q) r (sound q))
 
   -- A put of a triple that is held says so, and changes nothing.
-  module _ (none : None ≡ lacking_is) where
+  module _ (none : o ≡ None) where
     held : (quad_meaning q).held a u v ≡ true
-    held = held_is ∙ none_told _ _ none
+    held = held_is ∙ none_told _ _ (sym none ∙ way.is)
 
     pub held_fits : fits? (quad_meaning q) a u v ≡ true
     held_fits = fits_in_range (quad_meaning q) a u v r ∙ light_known (quad_meaning q) a u v (quad_lawful q).bounded held
@@ -89,12 +98,12 @@ module _ (q : Quadtree) {a u v : ℕ} (r : Ranged q.counts.labels q.counts.nodes
     known_after = sym (after_known (quad_meaning q) a u v held_fits held)
 
   -- Of one that is not, k blocks are lacking.
-  module _ {k : ℕ} (some : Some k ≡ lacking_is) where
+  module _ {k : ℕ} (some : o ≡ Some k) where
     new : (quad_meaning q).held a u v ≡ false
-    new = held_is ∙ (some_told _ _ k some).0
+    new = held_is ∙ (some_told _ _ k (sym some ∙ way.is)).0
 
     k_is : k ≡ lacks (ch q) root q.height u v
-    k_is = (some_told _ _ k some).1
+    k_is = (some_told _ _ k (sym some ∙ way.is)).1
 
     light_with : light? (quad_meaning q) a u v ≡ leb (q.spent + k) q.capacity
     light_with = light_is ∙ ap (λ n. leb (q.spent + n) q.capacity) (sym k_is)
@@ -118,13 +127,16 @@ module _ (q : Quadtree) {a u v : ℕ} (r : Ranged q.counts.labels q.counts.nodes
       pub new_answer : Ok New ≡ put_answer (quad_meaning q) a u v
       new_answer = sym (answer_taken (quad_meaning q) a u v fits false new)
 
-      module _ {i x s' : ℕ} {ch' : Links} (place : i ≡ a) (rooted : i < length q.roots)
-          (grown : Grown (ch q) ch' (get_or q.roots i 0) x q.spent s' q.height u v) where
+      module _ {i x s' cu cv : ℕ} {ch' : Links} (place : i ≡ a) (rooted : i < length q.roots) (same : (cu ≡ u) × (cv ≡ v))
+          (grown : Grown (ch q) ch' (get_or q.roots i 0) x q.spent s' q.height cu cv) where
         abbrev roots' : List ℕ
         roots' = set q.roots i x
 
         grown_here : Grown (ch q) ch' root (get_or roots' a 0) q.spent s' q.height u v
-        grown_here = subst (λ k. Grown (ch q) ch' (get_or q.roots k 0) (get_or roots' k 0) q.spent s' q.height u v) place (rw get_or-set_same grown)
+        grown_here =
+            subst (λ k. Grown (ch q) ch' (get_or q.roots k 0) (get_or roots' k 0) q.spent s' q.height u v) place
+            (subst (λ n. Grown (ch q) ch' (get_or q.roots i 0) (get_or roots' i 0) q.spent s' q.height u n) same.1
+            (subst (λ n. Grown (ch q) ch' (get_or q.roots i 0) (get_or roots' i 0) q.spent s' q.height n cv) same.0 (rw get_or-set_same grown)))
 
         others : (b : ℕ) → b ≢ a → get_or roots' b 0 ≡ get_or q.roots b 0
         others b ne = get_or-set_other q.roots i b x 0 (omega arith)

@@ -1,4 +1,4 @@
--- What a quadtree means, that it is lawful, and what a put does to the blocks of its pool. Assumes nothing.
+-- What a quadtree means, that it is lawful, how many blocks a triple lacks in it, and what a put does to the blocks of its pool. Assumes nothing.
 use Rattle.std.specs.Prelude.{◌≡◌, ℕ, List, length, slice_index, Ok, Err, Option, Result, ◌≢◌}
 use Rattle.std.proofs.Common.{ap, arith}
 use Rattle.std.proofs.lemmas.Bool.{and_parts}

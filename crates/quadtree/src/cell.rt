@@ -3,11 +3,24 @@
 ghost use Rattle.std.specs.Prelude.{◌≡◌, ◌<◌};
 ghost use Rattle.quadtree.specs.Links.{quarter_of};
 
+use graph::Triple;
+
 /// The cell of a pair of nodes, (u, v).
 #[derive(Clone, Copy)]
 pub(crate) struct Cell {
     pub(crate) u: u16,
     pub(crate) v: u16,
+}
+
+impl From<Triple> for Cell {
+    ghost from_gives = { λ t c. (c.u ≡ t.from) × (c.v ≡ t.to) };
+
+    fn from(triple: Triple) -> Self {
+        Cell {
+            u: triple.from,
+            v: triple.to,
+        }
+    }
 }
 
 impl Cell {

@@ -1,6 +1,6 @@
 //! The ways down a tree: to see which blocks are lacking on the way to a cell, and to insert one. Both go by recursion, and the height falls at each call.
 
-ghost use Rattle.std.specs.Prelude.{◌≡◌, ◌+◌, ◌<◌, ◌≤◌, length};
+ghost use Rattle.std.specs.Prelude.{◌≡◌, ◌+◌, ◌-◌, ◌^◌, ◌<◌, ◌≤◌, length};
 ghost use Rattle.quadtree.specs.Growth.{Tree, Opened, Grown};
 ghost use Rattle.quadtree.specs.Links.{lacks, lacking};
 ghost use Rattle.quadtree.specs.Making.{capacity_of};
@@ -9,7 +9,7 @@ ghost use Rattle.quadtree.specs.Pools.{links, Untouched};
 use crate::block::Block;
 use crate::cell::Cell;
 
-/// How many blocks are lacking on the way from the link down to the cell, or `None` where the cell stands.
+/// How many blocks are lacking on the way from the link down to the cell, or `None` where the cell stands. The link is a number as in a quarter, where the next one is read.
 pub(crate) fn lacking(blocks: &[Block], link: u32, height: u8, at: Cell) -> Option<u8>
     requires low { height ≤ 16 }
     requires tree { Tree (links blocks.now) link height (length blocks.now) }
@@ -35,7 +35,8 @@ pub(crate) struct Taken {
 
 /// The link itself where it leads to a block; else that of the first block that is not taken, which is taken and cleared.
 fn open(blocks: &mut [Block], taken: Taken) -> Taken
-    requires { taken.link ≡ 0 → taken.spent < capacity_of (length blocks.old) }
+    requires few { taken.spent < 2 ^ 32 - 1 }
+    requires room { taken.link ≡ 0 → taken.spent < length blocks.old }
     ensures untouched { Untouched blocks.old blocks.new result.spent }
     ensures opened { Opened (links blocks.old) (links blocks.new) taken.link result.link taken.spent result.spent }
 {

@@ -3,7 +3,7 @@
 ghost use Rattle.std.specs.Prelude.{◌≡◌, ◌<◌, ◌≤◌, true, length};
 ghost use Rattle.quadtree.specs.Heights.{heights_from?, height_of, height_answer, HeightsLeast};
 
-/// The height for each number of nodes from 0 to 1,024.
+/// The height for each number of nodes from 0 to 1,024, a constant table in read-only memory.
 const HEIGHTS: [u8; 1025] = [
     1, 1, 1, // up to 2 nodes
     2, 2, // up to 4 nodes

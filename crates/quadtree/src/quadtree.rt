@@ -19,10 +19,11 @@ pub struct Quadtree<'a> {
     blocks: &'a mut [Block],
     // The root of each label's tree: a number as in a quarter, 0 where the tree is empty.
     roots: [u32; 64],
-    // How many blocks are taken.
+    // How many blocks are taken, from the first on; all behind them is as the lender left it.
     spent: u32,
     counts: Counts,
     height: u8,
+    // How many may be taken: 0 where the quadtree was made without a fit.
     capacity: u32,
     size: u32,
     ghost few: { (counts.labels ≤ 64) × (counts.nodes ≤ 1024) },

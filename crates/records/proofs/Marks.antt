@@ -1,4 +1,4 @@
--- The first bytes of a list, the records that begin with them, and what comes after. Assumes nothing.
+-- The first bytes of a list, one by one, as a number and as a rule, and what stands further on. Assumes nothing.
 use Rattle.std.proofs.Common.{◌≡◌, ℕ, zero, suc, ◌+◌, ◌-◌, ◌*◌, ◌/◌, ◌%◌, ◌<◌, ◌≤◌, List, [], ◌∷◌, ◌++◌, length, get_or, take, drop, sym, refl, ap, ◌∙◌, add-zero, arith, length-append, length-drop, take-append-drop, drop-cons}
 use Rattle.std.proofs.lemmas.List.{take_rest, drop-drop, drop_at}
 

@@ -6,7 +6,7 @@ use Rattle.records.specs.Format.{Entry, encode_all, IsFile}
 use Rattle.records.specs.Shape.{Opens, Stops, bad_record, after_end, no_end}
 use Rattle.records.specs.Stages.{follow}
 use Rattle.records.proofs.Codes.{nothing_encoded}
-use Rattle.records.proofs.Runs.{Run, run_append, run_split, clash, one_stage, file_from_run, run_from_file, opens_from_run, run_from_opens, Stuck, furthest, unfinished}
+use Rattle.records.proofs.Runs.{Run, run_append, run_split, one_stage, file_from_run, run_from_file, opens_from_run, run_from_opens, Stuck, furthest, unfinished}
 
 -- the records up to the place are a run, which is stuck there
 pub record StuckAt (bytes : List ℕ) (place : ℕ) : Type 0 where
@@ -49,7 +49,7 @@ stuck_from_stops (after_end a) = record {
   stage = Done;
   rest = a.rest;
   run = run_from_file a.before a.file;
-  stuck = record { none = λ e t next placed front. clash placed; unended = λ done empty. a.something empty };
+  stuck = record { none = λ e t next placed front. cc placed; unended = λ done empty. a.something empty };
   front = a.front;
   here = a.here;
 }
@@ -92,8 +92,8 @@ module _ {bytes : List ℕ} {place : ℕ} (before : List Entry) where
   })
 
   pub stops_from_stuck : (stage : Stage) (rest : List ℕ) → Run Start before stage → Stuck stage rest → bytes ≡ encode_all before ++ rest → place ≡ length (encode_all before) → Stops bytes place
-  stops_from_stuck Start rest run stuck front here = amid Start (λ e. let z : ◌≡◌ {A = ℕ} 0 1 = cc in omega arith) rest run stuck front here
-  stops_from_stuck Body rest run stuck front here = amid Body (λ e. let z : ◌≡◌ {A = ℕ} 0 1 = cc in omega arith) rest run stuck front here
+  stops_from_stuck Start rest run stuck front here = amid Start (λ e. cc e) rest run stuck front here
+  stops_from_stuck Body rest run stuck front here = amid Body (λ e. cc e) rest run stuck front here
   stops_from_stuck Done rest run stuck front here = after_end (record {
     before = before;
     rest = rest;

@@ -1,5 +1,6 @@
 -- Runs of well placed records, which are what a file begins with. Assumes nothing.
-use Rattle.std.proofs.Common.{◌≡◌, ℕ, ◌≤◌, List, [], ◌∷◌, ◌++◌, length, Some, None, Option, sym, refl, ap, ◌∙◌, subst, append_assoc, zero-le, arith, length-append}
+use Rattle.std.proofs.Common.{◌≡◌, ℕ, ◌≤◌, List, [], ◌∷◌, ◌++◌, length, Some, sym, refl, ap, ◌∙◌, subst, append_assoc, zero-le, arith, length-append}
+use Rattle.std.proofs.lemmas.Option.{same_Some}
 use Rattle.std.specs.List.{AllByRecursion}
 use Rattle.records.specs.declared.file.Stage.{Stage}
 use Rattle.records.specs.declared.file.Stage.TheVariants.{Start, Body, Done}
@@ -21,34 +22,28 @@ pub run_split : (s u : Stage) (es fs : List Entry) → Run s (es ++ fs) u → (t
 run_split s u [] fs a = (s, refl, a)
 run_split s u (e ∷ es) fs a = let r = run_split a.0 u es fs a.2 in (r.0, (a.0, a.1, r.1), r.2)
 
-pub unsome : {A : Type 0} {x y : A} → Some x ≡ Some y → x ≡ y
-unsome e = cc
-
-pub clash : {A B : Type 0} {x : A} → ◌≡◌ {A = Option A} None (Some x) → B
-clash e = let z : ◌≡◌ {A = ℕ} 0 1 = cc in absurd (omega arith)
-
 -- a run leads to one stage
 pub one_stage : (s t u : Stage) (es : List Entry) → Run s es t → Run s es u → t ≡ u
 one_stage s t u [] a b = sym a ∙ b
-one_stage s t u (e ∷ es) a b = one_stage a.0 t u es a.2 (subst (λ m. Run m es u) (unsome (sym b.1 ∙ a.1)) b.2)
+one_stage s t u (e ∷ es) a b = one_stage a.0 t u es a.2 (subst (λ m. Run m es u) (same_Some _ _ (sym b.1 ∙ a.1)) b.2)
 
 -- a whole run is a file, and a file a whole run
 body_run : (es : List Entry) → Run Body es Done → (body : List Entry) × AllByRecursion Inner body × (es ≡ body ++ end ∷ [])
-body_run [] r = absurd (let z : ◌≡◌ {A = ℕ} 0 1 = cc in omega arith)
-body_run (header l n ∷ es) r = clash r.1
-body_run (rule x xs ∷ es) r = let b = body_run es (subst (λ m. Run m es Done) (sym (unsome r.1)) r.2) in (rule x xs ∷ b.0, (tt, b.1), ap (λ l. rule x xs ∷ l) b.2)
-body_run (edge l n m ∷ es) r = let b = body_run es (subst (λ m. Run m es Done) (sym (unsome r.1)) r.2) in (edge l n m ∷ b.0, (tt, b.1), ap (λ l'. edge l n m ∷ l') b.2)
+body_run [] r = cc r
+body_run (header l n ∷ es) r = cc r.1
+body_run (rule x xs ∷ es) r = let b = body_run es (subst (λ m. Run m es Done) (sym (same_Some _ _ r.1)) r.2) in (rule x xs ∷ b.0, (tt, b.1), ap (λ l. rule x xs ∷ l) b.2)
+body_run (edge l n m ∷ es) r = let b = body_run es (subst (λ m. Run m es Done) (sym (same_Some _ _ r.1)) r.2) in (edge l n m ∷ b.0, (tt, b.1), ap (λ l'. edge l n m ∷ l') b.2)
 body_run (end ∷ []) r = ([], tt, refl)
-body_run (end ∷ e ∷ es) r = clash (subst (λ m. follow m e ≡ Some r.2.0) (sym (unsome r.1)) r.2.1)
+body_run (end ∷ e ∷ es) r = cc (r.1, r.2.1)
 
 pub file_from_run : (es : List Entry) → Run Start es Done → FileOf es
-file_from_run [] r = absurd (let z : ◌≡◌ {A = ℕ} 0 1 = cc in omega arith)
+file_from_run [] r = cc r
 file_from_run (header l n ∷ es) r =
-    let b = body_run es (subst (λ m. Run m es Done) (sym (unsome r.1)) r.2) in
+    let b = body_run es (subst (λ m. Run m es Done) (sym (same_Some _ _ r.1)) r.2) in
     record { labels = l; nodes = n; body = b.0; inner = b.1; whole = ap (λ l'. header l n ∷ l') b.2 }
-file_from_run (rule x xs ∷ es) r = clash r.1
-file_from_run (edge l n m ∷ es) r = clash r.1
-file_from_run (end ∷ es) r = clash r.1
+file_from_run (rule x xs ∷ es) r = cc r.1
+file_from_run (edge l n m ∷ es) r = cc r.1
+file_from_run (end ∷ es) r = cc r.1
 
 run_body : (body : List Entry) → AllByRecursion Inner body → Run Body (body ++ end ∷ []) Done
 run_body [] i = (Done, refl, refl)
@@ -84,7 +79,7 @@ furthest s t u [] (f ∷ fs) rest more a b k h =
     absurd (k.none f (encode_all fs ++ more) b.0 (subst (λ x. follow x f ≡ Some b.0) a b.1) (h ∙ append_assoc (encode f) (encode_all fs) more))
 furthest s t u (e ∷ es) (f ∷ fs) rest more a b k h =
     let same = same_front e f (encode_all es ++ rest) (encode_all fs ++ more) (sym (append_assoc (encode e) (encode_all es) rest) ∙ h ∙ append_assoc (encode f) (encode_all fs) more) in
-    let stage : b.0 ≡ a.0 = unsome (sym b.1 ∙ ap (follow s) (sym same.0) ∙ a.1) in
+    let stage : b.0 ≡ a.0 = cc (same.0, a.1, b.1) in
     let shorter = furthest a.0 t u es fs rest more a.2 (subst (λ m. Run m fs u) stage b.2) k same.1 in
     let first = ap (λ x. length (encode x)) same.0 in
     simp length-append (omega arith)
@@ -92,9 +87,9 @@ furthest s t u (e ∷ es) (f ∷ fs) rest more a b k h =
 -- nor does it end as a file does
 pub unfinished : (s t : Stage) (es fs : List Entry) (rest : List ℕ) → Run s es t → Run s fs Done → Stuck t rest → encode_all es ++ rest ≡ encode_all fs → ⊥
 unfinished s t [] [] rest a b k h = k.unended (sym a ∙ b) h
-unfinished s t (e ∷ es) [] rest a b k h = clash (subst (λ x. follow x e ≡ Some a.0) b a.1)
+unfinished s t (e ∷ es) [] rest a b k h = cc (b, a.1)
 unfinished s t [] (f ∷ fs) rest a b k h = k.none f (encode_all fs) b.0 (subst (λ x. follow x f ≡ Some b.0) a b.1) h
 unfinished s t (e ∷ es) (f ∷ fs) rest a b k h =
     let same = same_front e f (encode_all es ++ rest) (encode_all fs) (sym (append_assoc (encode e) (encode_all es) rest) ∙ h) in
-    let stage : b.0 ≡ a.0 = unsome (sym b.1 ∙ ap (follow s) (sym same.0) ∙ a.1) in
+    let stage : b.0 ≡ a.0 = cc (same.0, a.1, b.1) in
     unfinished a.0 t es fs rest a.2 (subst (λ m. Run m fs Done) stage b.2) k same.1

@@ -39,12 +39,10 @@ pub fn copy_file(bytes: &[u8], out: &mut [u8]) -> Result<usize, Fault>
             place: bytes.len(),
         });
     }
-    // A count: of a slice that is cut shorter on each turn nothing could be concluded for the whole memory.
-    let mut written = 0;
     for Token { place, record } in file.records() {
-        written += record
-            .write(&mut out[written..])
+        record
+            .write(&mut out[place..])
             .map_err(|refusal| Fault { refusal, place })?;
     }
-    Ok(written)
+    Ok(bytes.len())
 }

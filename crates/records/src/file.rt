@@ -5,7 +5,7 @@ ghost use Rattle.records.specs.Format.{IsFile};
 ghost use Rattle.records.specs.Stages.{follow};
 
 use crate::reader::Records;
-use crate::record::Record;
+use crate::record::{Record, Token};
 
 /// A whole record file, read without fault.
 #[derive(Clone, Copy, Debug)]
@@ -58,19 +58,15 @@ impl<'a> File<'a> {
         ensures ranges { Ranged bytes.now }
     {
         let mut stage = Stage::Start;
-        // A count: a pass that a `for` has taken, by value or by reference, does not tell behind the loop where it stands.
-        let mut place = 0;
-        for token in Records::new(bytes) {
-            stage = stage.after(&token.record).ok_or(Misshapen { place })?;
-            place += token.record.size();
+        let mut end = 0;
+        for Token { place, record } in Records::new(bytes) {
+            stage = stage.after(&record).ok_or(Misshapen { place })?;
+            end = place + record.size();
         }
-        let Stage::Done = stage else {
-            return Err(Misshapen { place });
-        };
-        if place < bytes.len() {
-            return Err(Misshapen { place });
+        match stage {
+            Stage::Done if end == bytes.len() => Ok(File { bytes }),
+            _ => Err(Misshapen { place: end }),
         }
-        Ok(File { bytes })
     }
 
     /// The records of the file in order, each with its byte place.

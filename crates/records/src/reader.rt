@@ -8,6 +8,7 @@ mod pass;
 #[derive(Drop)]
 pub struct Records<'a> {
     input: &'a [u8],
+    /// How many bytes are read. `input` is not cut shorter instead, since a token says its place in the whole input.
     place: usize,
     ghost within: { place ≤ length input.now },
 }

@@ -1,7 +1,7 @@
 //! One record a call, to the front of the memory that is left. The room is looked at before anything is written.
 
 ghost use Rattle.std.specs.Prelude.{◌≡◌, ◌++◌};
-ghost use Rattle.records.specs.Format.{header, edge, encode, encode_output};
+ghost use Rattle.records.specs.Format.{two, encode_output};
 ghost use Rattle.records.specs.Reading.{entry};
 ghost use Rattle.records.specs.Writing.{put_answer, after_put, write_answer, after_write};
 
@@ -22,21 +22,20 @@ fn put(front: &[u8], tail: &[u8], out: &mut [u8]) -> Result<usize, Refusal>
     Ok(size)
 }
 
-/// The bytes of a header.
-fn header_bytes(counts: Counts) -> [u8; 5]
-    ensures { result ≡ encode (header counts.labels counts.nodes) }
+/// The bytes of a number of nodes.
+fn node_bytes(nodes: u16) -> [u8; 2]
+    ensures { result ≡ two nodes }
 {
-    let [n1, n0] = counts.nodes.to_be_bytes();
-    [b'G', b'R', counts.labels, n1, n0]
+    nodes.to_be_bytes()
 }
 
-/// The bytes of an edge.
-fn edge_bytes(triple: Triple) -> [u8; 7]
-    ensures { result ≡ encode (edge triple.label triple.from triple.to) }
+/// The bytes of two nodes.
+fn pair_bytes(from: u16, to: u16) -> [u8; 4]
+    ensures { result ≡ two from ++ two to }
 {
-    let [f1, f0] = triple.from.to_be_bytes();
-    let [t1, t0] = triple.to.to_be_bytes();
-    [b'E', b'D', triple.label, f1, f0, t1, t0]
+    let [f1, f0] = from.to_be_bytes();
+    let [t1, t0] = to.to_be_bytes();
+    [f1, f0, t1, t0]
 }
 
 impl Record<'_> {
@@ -46,12 +45,16 @@ impl Record<'_> {
         ensures memory { out.new ≡ after_write (entry self.now) out.old }
     {
         match *self {
-            Record::Header(counts) => put(&header_bytes(counts), &[], out),
+            Record::Header(Counts { labels, nodes }) => {
+                put(&[b'G', b'R', labels], &node_bytes(nodes), out)
+            }
             Record::Rule { head, items } => {
                 let count = u8::try_from(items.len()).map_err(|_| Refusal::Long)?;
                 put(&[b'R', b'L', head, count], items, out)
             }
-            Record::Edge(triple) => put(&edge_bytes(triple), &[], out),
+            Record::Edge(Triple { label, from, to }) => {
+                put(&[b'E', b'D', label], &pair_bytes(from, to), out)
+            }
             Record::End => put(b"EN", &[], out),
         }
     }
@@ -64,18 +67,12 @@ impl Output {
         ensures memory { out.new ≡ after_put (encode_output self.now) out.old }
     {
         match *self {
-            Output::Pair { from, to } => {
-                let [f1, f0] = from.to_be_bytes();
-                let [t1, t0] = to.to_be_bytes();
-                put(&[b'P', b'R', f1, f0, t1, t0], &[], out)
-            }
+            Output::Pair { from, to } => put(b"PR", &pair_bytes(from, to), out),
             Output::Listing { label, pairs } => {
-                let [p3, p2, p1, p0] = pairs.to_be_bytes();
-                put(&[b'L', b'S', label, p3, p2, p1, p0], &[], out)
+                put(&[b'L', b'S', label], &pairs.to_be_bytes(), out)
             }
             Output::No { refusal, place } => {
-                let [p3, p2, p1, p0] = place.to_be_bytes();
-                put(&[b'N', b'O', refusal.number(), p3, p2, p1, p0], &[], out)
+                put(&[b'N', b'O', refusal.number()], &place.to_be_bytes(), out)
             }
         }
     }

@@ -58,6 +58,7 @@ impl From<StoreFault> for Refusal {
 }
 
 /// The number of a fault is that of its refusal.
+// Each fault says so for itself: `From` promises a relation, and an `impl` over all that turn into a refusal could not name the number.
 impl Numbered for StoreFault {
     ghost number_of = { fault_number };
 

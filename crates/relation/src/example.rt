@@ -6,6 +6,7 @@ use graph::Triple;
 
 /// A script for any store of three labels and four nodes that holds nothing yet and has room for ten triples: the nine of the matched pairs, refusals in their order, and one triple more.
 pub const MATCHED_PAIRS: [Put; 15] = [
+    // Spelled out, since the value of a constant holds no call.
     // The edges of the graph of matched pairs: a is label 0, and b is label 1.
     Put {
         triple: Triple {

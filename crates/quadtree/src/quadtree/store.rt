@@ -5,7 +5,6 @@ ghost use Rattle.graph.specs.Graph.{at};
 ghost use Rattle.relation.specs.Meaning.{held_weight, put_answer, after_put};
 ghost use Rattle.quadtree.specs.Quadtrees.{blocks_of, quad_meaning, quad_lawful, Lacks, BlocksAfter};
 
-use crate::cell::Cell;
 use crate::descent::{Taken, insert, lacking};
 use crate::quadtree::Quadtree;
 use graph::{RangeFault, Triple};
@@ -18,11 +17,7 @@ impl Quadtree<'_> {
     {
         self.counts.check(triple)?;
         let root = self.roots[usize::from(triple.label)];
-        let at = Cell {
-            u: triple.from,
-            v: triple.to,
-        };
-        Ok(lacking(self.blocks, root, self.height, at))
+        Ok(lacking(self.blocks, root, self.height, triple.into()))
     }
 
     /// Whether so many blocks are left.
@@ -87,11 +82,7 @@ impl Store for Quadtree<'_> {
             link: self.roots[i],
             spent: self.spent,
         };
-        let at = Cell {
-            u: triple.from,
-            v: triple.to,
-        };
-        let taken = insert(self.blocks, root, self.height, at);
+        let taken = insert(self.blocks, root, self.height, triple.into());
         self.roots[i] = taken.link;
         self.spent = taken.spent;
         self.size += 1;

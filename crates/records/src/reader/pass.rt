@@ -1,6 +1,6 @@
 //! How a pass begins and goes on. Each record is found where the one before it ends.
 
-ghost use Rattle.std.specs.Prelude.{◌≡◌, ◌-◌, length};
+ghost use Rattle.std.specs.Prelude.{◌-◌, length};
 ghost use Rattle.records.specs.Reading.{Begins, Passes, Steps};
 ghost use Rattle.std.specs.Iterator.{at_most};
 

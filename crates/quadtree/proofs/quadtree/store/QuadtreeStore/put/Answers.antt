@@ -1,28 +1,20 @@
-use Rattle.std.proofs.Common.{sym, ◌∙◌, arith}
+use Rattle.std.proofs.Common.{arith}
 use Rattle.relation.proofs.Added.{size_small}
 use Rattle.quadtree.specs.Quadtrees.{quad_meaning}
 use Rattle.quadtree.proofs.Stored.{low, tree_among, known_answer, known_after, full_answer, full_after, new_answer, inserted}
 use Rattle.quadtree.proofs.quadtree.store.QuadtreeStore.put.Goals as goal
 
 pub returns-in_default-clause-answer : goal.returns-in_default-clause-answer
-returns-in_default-clause-answer c =
-    let way = c.in_ok-lacking.ensures in
-    known_answer c.args.self.now way.range (sym c.in_default.is ∙ way.is)
+returns-in_default-clause-answer c = known_answer c.in_ok-lacking.ensures c.in_default.is
 
 pub returns-in_default-clause-after : goal.returns-in_default-clause-after
-returns-in_default-clause-after c =
-    let way = c.in_ok-lacking.ensures in
-    known_after c.args.self.now way.range (sym c.in_default.is ∙ way.is)
+returns-in_default-clause-after c = known_after c.in_ok-lacking.ensures c.in_default.is
 
 pub returns-then-not-has_room-clause-answer : goal.returns-then-not-has_room-clause-answer
-returns-then-not-has_room-clause-answer c =
-    let way = c.in_ok-lacking.ensures in
-    full_answer c.args.self.now way.range (sym c.in-Some.is ∙ way.is) c.if-not-has_room.ensures
+returns-then-not-has_room-clause-answer c = full_answer c.in_ok-lacking.ensures c.in-Some.is c.if-not-has_room.ensures
 
 pub returns-then-not-has_room-clause-after : goal.returns-then-not-has_room-clause-after
-returns-then-not-has_room-clause-after c =
-    let way = c.in_ok-lacking.ensures in
-    full_after c.args.self.now way.range (sym c.in-Some.is ∙ way.is) c.if-not-has_room.ensures
+returns-then-not-has_room-clause-after c = full_after c.in_ok-lacking.ensures c.in-Some.is c.if-not-has_room.ensures
 
 pub insert-taken-requires-clause-low : goal.insert-taken-requires-clause-low
 insert-taken-requires-clause-low c = low c.args.self.now
@@ -40,10 +32,9 @@ overflow_add-self c =
 pub invariant_of-self : goal.invariant_of-self
 invariant_of-self c =
     let q = c.args.self.now in
-    let way = c.in_ok-lacking.ensures in
     let i =
-    inserted q way.range (sym c.in-Some.is ∙ way.is) c.if-not-has_room.ensures c.from-i.ensures
-    (omega (arith, c.in_ok-lacking.ensures.range.label)) c.insert-taken.ensures.grown in
+    inserted c.in_ok-lacking.ensures c.in-Some.is c.if-not-has_room.ensures c.from-i.ensures
+    (omega (arith, c.in_ok-lacking.ensures.range.label)) c.into.ensures c.insert-taken.ensures.grown in
     let s = i.sound in
     record {
       few = q.few;
@@ -57,14 +48,11 @@ invariant_of-self c =
     }
 
 pub returns-clause-answer : goal.returns-clause-answer
-returns-clause-answer c =
-    let way = c.in_ok-lacking.ensures in
-    new_answer c.args.self.now way.range (sym c.in-Some.is ∙ way.is) c.if-not-has_room.ensures
+returns-clause-answer c = new_answer c.in_ok-lacking.ensures c.in-Some.is c.if-not-has_room.ensures
 
 pub returns-clause-after : goal.returns-clause-after
 returns-clause-after c =
-    let way = c.in_ok-lacking.ensures in
     let i =
-    inserted c.args.self.now way.range (sym c.in-Some.is ∙ way.is) c.if-not-has_room.ensures c.from-i.ensures
-    (omega (arith, c.in_ok-lacking.ensures.range.label)) c.insert-taken.ensures.grown in
+    inserted c.in_ok-lacking.ensures c.in-Some.is c.if-not-has_room.ensures c.from-i.ensures
+    (omega (arith, c.in_ok-lacking.ensures.range.label)) c.into.ensures c.insert-taken.ensures.grown in
     i.after
