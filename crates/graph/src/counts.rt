@@ -23,7 +23,7 @@ pub struct Counts {
 
 impl Counts {
     /// The counts of so many labels and nodes, which may be any numbers.
-    pub const fn new(labels: u8, nodes: u16) -> Self
+    pub fn new(labels: u8, nodes: u16) -> Self
         ensures { result ≡ counts labels nodes }
     {
         Counts { labels, nodes }
@@ -33,11 +33,7 @@ impl Counts {
     pub fn fit(self) -> Result<(), FitFault>
         ensures { result ≡ counts_answer self.labels self.nodes }
     {
-        if 1 <= self.labels
-            && self.labels <= MOST_LABELS
-            && 1 <= self.nodes
-            && self.nodes <= MOST_NODES
-        {
+        if (1..=MOST_LABELS).contains(&self.labels) && (1..=MOST_NODES).contains(&self.nodes) {
             Ok(())
         } else {
             Err(FitFault::Counts)

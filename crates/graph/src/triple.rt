@@ -16,7 +16,7 @@ pub struct Triple {
 
 impl Triple {
     /// The triple of a label, from a node to a node.
-    pub const fn new(label: u8, from: u16, to: u16) -> Self
+    pub fn new(label: u8, from: u16, to: u16) -> Self
         ensures { result ≡ triple label from to }
     {
         Triple { label, from, to }

@@ -35,7 +35,7 @@ enum Stage {
 impl Stage {
     ghost use Rattle.records.specs.Reading.{entry};
 
-    /// The stage after `record`, if that may stand here.
+    /// The stage after `record`, if that may stand here. One `match` shows all stages and records.
     fn after(self, record: &Record) -> Option<Stage>
         ensures { result ≡ follow self (entry «record».now) }
     {

@@ -23,7 +23,7 @@ impl Numbered for Grant {
     }
 }
 
-/// Why a store refuses a triple. The first case that applies is the answer.
+/// Why a store refuses a triple. The first case that applies is the answer. The two cases of a `RangeFault` stand beside the third, so that a `match` goes one deep.
 #[derive(Clone, Copy, Debug, PartialEq, Eq)]
 pub enum StoreFault {
     /// The label is out of range.

@@ -12,6 +12,3 @@ bounds-blocks-link t c = grind (arith, at_block)
 pub lacking-requires : goal.lacking-requires
 lacking-requires t c =
     (omega arith, (omega arith, at_child (links c.args.blocks.now) c.args.link c.args.height _ _ (omega arith) (omega arith) c.quarter.ensures.of_four c.requires.tree))
-
-pub returns : goal.returns
-returns t c = grind arith
