@@ -7,7 +7,7 @@ n 1b "functions that answer an own enum, not a Result" "code | xargs grep -nE 'f
 n 1c "numbers that stand for a case"                   "code | xargs grep -nE 'link: u32|roots: \[u32|children: \[u32'"
 n 2a "fn number, fn answer_number"                     "code | xargs grep -nE 'fn (number|answer_number)\('"
 n 2b "range tests of a triple"                         "code | xargs grep -nE '(label|from|to) (<|>=) self' | grep -v requires"
-n 2c "recursions down a tree"                          "code | xargs grep -nE '^ *(find|lacking|let below = insert)\(blocks'"
+n 2c "recursions down a tree"                          "code | xargs grep -nE '^ *(find|lacking|lacking_links|let below = insert)\(blocks'"
 n 2d "put and put_rule, each with its own test of the room" "code | xargs grep -nE 'if out.len\(\) < size'"
 n 3a "while"                                           "code | xargs grep -nE 'while '"
 n 3b "for over a range of numbers"                     "code | xargs grep -nE 'for .* in [^{]*\.\.'"

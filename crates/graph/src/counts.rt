@@ -65,9 +65,9 @@ impl Counts {
 #[derive(Clone, Copy, Debug, PartialEq, Eq)]
 pub enum FitFault {
     /// The number of labels or of nodes is out of its range.
-    Counts,
+    Counts = 1,
     /// There is too little memory for that many labels and nodes.
-    Memory,
+    Memory = 2,
 }
 
 impl From<FitFault> for Refusal {
@@ -81,13 +81,12 @@ impl From<FitFault> for Refusal {
     }
 }
 
-/// The number of a fault is that of its refusal.
-// Each fault says so for itself: `From` promises a relation, and an `impl` over all that turn into a refusal could not name the number.
+/// The number of a fault is that of its refusal, and stands at its case.
 impl Numbered for FitFault {
     ghost number_of = { fit_fault_number };
 
     fn number(self) -> u8 {
-        Refusal::from(self).number()
+        self as u8
     }
 }
 

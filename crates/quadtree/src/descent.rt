@@ -1,29 +1,30 @@
-//! The ways down a tree: to see which blocks are lacking on the way to a cell, and to insert one. Both go by recursion, and the height falls at each call.
+//! The ways down a tree: to see how many links are lacking on the way to a cell, and to insert one. Both go by recursion, and the height falls at each call.
 
 ghost use Rattle.std.specs.Prelude.{◌≡◌, ◌+◌, ◌-◌, ◌^◌, ◌<◌, ◌≤◌, length};
 ghost use Rattle.quadtree.specs.Growth.{Tree, Opened, Grown};
-ghost use Rattle.quadtree.specs.Links.{lacks, lacking};
+ghost use Rattle.quadtree.specs.Links.{lacks, lacking_links};
 ghost use Rattle.quadtree.specs.Making.{capacity_of};
 ghost use Rattle.quadtree.specs.Pools.{links, Untouched};
 
 use crate::block::Block;
 use crate::cell::Cell;
 
-/// How many blocks are lacking on the way from the link down to the cell, or `None` where the cell stands. The link is a number as in a quarter, where the next one is read.
-pub(crate) fn lacking(blocks: &[Block], link: u32, height: u8, at: Cell) -> Option<u8>
+/// How many links are lacking on the way from the link down to the cell: one for each block that is lacking and one for the cell, so 0 just where the cell stands. The link is a number as in a quarter, where the next one is read.
+// A plain number: with an `Option` in its place the compiled code has a call at each level, and with a number a loop.
+pub(crate) fn lacking_links(blocks: &[Block], link: u32, height: u8, at: Cell) -> u8
     requires low { height ≤ 16 }
     requires tree { Tree (links blocks.now) link height (length blocks.now) }
-    ensures { result ≡ lacking (links blocks.now) link height at.u at.v }
+    ensures { result ≡ lacking_links (links blocks.now) link height at.u at.v }
 {
     if link == 0 {
-        return Some(height);
+        return height + 1;
     }
     if height == 0 {
-        return None;
+        return 0;
     }
     // `as`, here and below: there is no `From` from `u32` to `usize`.
     let below = blocks[link as usize - 1].children[at.quarter(height - 1)];
-    lacking(blocks, below, height - 1, at)
+    lacking_links(blocks, below, height - 1, at)
 }
 
 /// A link, a number as in a quarter, and how many blocks of the pool are taken. The pool is lent memory, so it cannot keep its own count.

@@ -27,11 +27,11 @@ impl Numbered for Grant {
 #[derive(Clone, Copy, Debug, PartialEq, Eq)]
 pub enum StoreFault {
     /// The label is out of range.
-    Label,
+    Label = 6,
     /// One of the nodes is out of range.
-    Node,
+    Node = 8,
     /// The held triples and this one would weigh more than the capacity.
-    Full,
+    Full = 9,
 }
 
 impl From<RangeFault> for StoreFault {
@@ -57,12 +57,11 @@ impl From<StoreFault> for Refusal {
     }
 }
 
-/// The number of a fault is that of its refusal.
-// Each fault says so for itself: `From` promises a relation, and an `impl` over all that turn into a refusal could not name the number.
+/// The number of a fault is that of its refusal, and stands at its case.
 impl Numbered for StoreFault {
     ghost number_of = { fault_number };
 
     fn number(self) -> u8 {
-        Refusal::from(self).number()
+        self as u8
     }
 }

@@ -5,7 +5,7 @@ ghost use Rattle.graph.specs.Graph.{at};
 ghost use Rattle.relation.specs.Meaning.{held_weight, put_answer, after_put};
 ghost use Rattle.quadtree.specs.Quadtrees.{blocks_of, quad_meaning, quad_lawful, Lacks, BlocksAfter};
 
-use crate::descent::{Taken, insert, lacking};
+use crate::descent::{Taken, insert, lacking_links};
 use crate::quadtree::Quadtree;
 use graph::{RangeFault, Triple};
 use relation::{Grant, Store, StoreFault};
@@ -17,7 +17,8 @@ impl Quadtree<'_> {
     {
         self.counts.check(triple)?;
         let root = self.roots[usize::from(triple.label)];
-        Ok(lacking(self.blocks, root, self.height, triple.into()))
+        // One of the links is the cell's own.
+        Ok(lacking_links(self.blocks, root, self.height, triple.into()).checked_sub(1))
     }
 
     /// Whether so many blocks are left.
