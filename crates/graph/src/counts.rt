@@ -86,6 +86,7 @@ impl Numbered for FitFault {
     ghost number_of = { fit_fault_number };
 
     fn number(self) -> u8 {
+        // `as` is the way to the number that a case is declared with.
         self as u8
     }
 }
