@@ -25,7 +25,7 @@ abbrev pub lacks : Links → ℕ → ℕ → ℕ → ℕ → ℕ
 lacks ch l zero u v = 0
 lacks ch l (suc j) u v = one (l == 0) + lacks ch (down ch l (quarter_of j u v)) j u v
 
--- how many links are lacking there, that of the cell itself among them
+-- how many links are lacking there, that of the cell itself among them: none where the cell stands
 abbrev pub lacking_links : Links → ℕ → ℕ → ℕ → ℕ → ℕ
 lacking_links ch l j u v = cond (cell ch l j u v) 0 (lacks ch l j u v + 1)
 

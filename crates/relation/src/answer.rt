@@ -62,7 +62,7 @@ impl Numbered for StoreFault {
     ghost number_of = { fault_number };
 
     fn number(self) -> u8 {
-        // `as`, for the reason above.
+        // `as`, as for a `Grant`.
         self as u8
     }
 }
